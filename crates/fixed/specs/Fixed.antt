@@ -1,0 +1,24 @@
+-- The three words of document 01 that every rule is written with: "down", "held to" and "within".
+-- They compute: at numbers that are written out, an equation of theirs is `refl`.
+use Prim.Native.Nat.{ℕ, suc, _/_}
+use mathlib.Core.Bool.{Bool, cond, _&&_}
+use lib.IntN.{ℤ, pos, negsuc, negℤ}
+use lib.Signed.{ltZ, leZ}
+
+-- a / m and −(a + 1) / m, rounded towards minus infinity: −(a + 1) / m is −(a / m + 1)
+abbrev pub downBy : ℤ → ℕ → ℤ
+downBy (pos a) m = pos (a / m)
+downBy (negsuc a) m = negsuc (a / m)
+
+-- x / d, rounded towards minus infinity, also below zero
+unfoldable pub down : ℤ → ℤ → ℤ
+down x (pos m) = downBy x m
+down x (negsuc m) = downBy (negℤ x) (suc m)
+
+-- x held to lo..hi
+unfoldable pub held : ℤ → ℤ → ℤ → ℤ
+held x lo hi = cond (ltZ x lo) lo (cond (ltZ hi x) hi x)
+
+-- whether x is within lo..hi, ends included
+abbrev pub within : ℤ → ℤ → ℤ → Bool
+within lo hi x = leZ lo x && leZ x hi

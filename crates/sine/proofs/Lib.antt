@@ -1,0 +1,3 @@
+pub mod Upto
+pub mod Ladder
+pub mod Readings

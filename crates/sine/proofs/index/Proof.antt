@@ -1,0 +1,28 @@
+-- `sine::index` meets its contract: an angle is not negative, so that its quotient rounds down.
+-- Assumes nothing.
+use mathlib.Core.Path.{_≡_, refl, sym, ap, _∙_, subst}
+use Prim.Native.Nat.{ℕ, _/_, _<_}
+use lib.Dec.{T, lit<}
+use lib.IntN.{ℤ, pos, negsuc, natAbs}
+use lib.Signed.{nonNeg, yes-nonNeg}
+use mir.Facts.{fits-natAbs}
+use mir.Syntax.{w32, w64}
+use Rattle.fixed.specs.Fixed.{down}
+use Rattle.fixed.proofs.Reading.{word}
+use Rattle.sine.specs.Sine.{Angle, indexOf}
+use Rattle.sine.proofs.index.Statement.{statement}
+use Rattle.sine.proofs.index.Tie as tie
+
+quotient : (a : ℤ) → Angle a → natAbs a / 256 ≡ indexOf a
+unfolding indexOf down
+quotient (pos n) h = refl
+quotient (negsuc n) h = absurd (h .lo .le)
+
+cast-result : tie.Need-cast-result
+cast-result c = rw (word (c .fits .angle) .is) (yes-nonNeg (c .pre .lo), fits-natAbs tt (c .fits .angle))
+
+returns : tie.Need-returns
+returns c = ap (λ (a : ℤ). natAbs a / 256) (word (c .fits .angle) .is) ∙ quotient (c .args .angle) (c .pre)
+
+pub index-spec : {M : Type 1} → statement M
+index-spec = tie.close (tie.spec cast-result returns)

@@ -1,0 +1,80 @@
+-- The sine table and its two readings (document 01, rule 4 and "Sine table"). The logic has no π: the table is built by halving an angle
+-- at the scale S = 2^40 and turning step by step, all whole numbers, all rounded down.
+use Prim.Native.Nat.{ℕ, zero, suc, _+_, _*_, _-_, _/_, _%_, _^_}
+use mathlib.Core.Bool.{cond}
+use lib.Dec.{leb}
+use lib.IntN.{ℤ, pos, negℤ, natAbs, _+ℤ_, _-ℤ_, _*ℤ_}
+use lib.Signed.{_≤ℤ_}
+use Rattle.fixed.specs.Fixed.{down}
+
+-- S
+abbrev pub scale : ℕ
+scale = 1099511627776
+
+-- the root of n rounded down, binary digit by digit: r is found so far, k digits are to come
+unfoldable pub rootFrom : ℕ → ℕ → ℕ → ℕ
+rootFrom n zero r = r
+rootFrom n (suc k) r = rootFrom n k (cond (leb ((r + 2 ^ k) * (r + 2 ^ k)) n) (r + 2 ^ k) r)
+
+-- for n below 2^82
+unfoldable pub root : ℕ → ℕ
+root n = rootFrom n 41 0
+
+-- the cosine of half the angle: the root of S·(S + cos)/2
+unfoldable pub halved : ℕ → ℕ
+halved c = root (scale * (scale + c) / 2)
+
+-- from cosine 0 at index 64 by six halvings: index 2 after five of them, and index 1
+unfoldable pub cos2 : ℕ
+cos2 = halved (halved (halved (halved (halved 0))))
+
+unfoldable pub cos1 : ℕ
+cos1 = halved cos2
+
+-- and, last, the sine of index 1: the root of S·(S − cos)/2, cos being that of index 2
+unfoldable pub sin1 : ℕ
+sin1 = root (scale * (scale - cos2) / 2)
+
+pub record Pair : Type 0 where
+  pub cos : ℤ
+  pub sin : ℤ
+
+-- one step round, each sum rounded down once
+unfoldable pub turn : Pair → Pair
+turn p = record {
+  cos = down (p .cos *ℤ pos cos1 -ℤ p .sin *ℤ pos sin1) (pos scale);
+  sin = down (p .sin *ℤ pos cos1 +ℤ p .cos *ℤ pos sin1) (pos scale);
+}
+
+-- k steps from (cos S, sin 0)
+unfoldable pub turned : ℕ → Pair
+turned zero = record { cos = pos scale; sin = pos 0 }
+turned (suc k) = turn (turned k)
+
+-- entries 0 to 64: (4096·sin + S/2)/S down
+unfoldable pub rising : ℕ → ℤ
+rising k = down (pos 4096 *ℤ turned k .sin +ℤ pos (scale / 2)) (pos scale)
+
+-- entries 0 to 128: t(128 − k) = t(k)
+unfoldable pub half : ℕ → ℤ
+half k = cond (leb k 64) (rising k) (rising (128 - k))
+
+-- entries 0 to 255: t(128 + k) = −t(k)
+unfoldable pub sineEntry : ℕ → ℤ
+sineEntry k = cond (leb k 128) (half k) (negℤ (half (k - 128)))
+
+-- an angle, 65536 to the turn
+pub record Angle (a : ℤ) : Type 0 where
+  pub lo : pos 0 ≤ℤ a
+  pub hi : a ≤ℤ pos 65535
+
+-- index is angle/256 down
+unfoldable pub indexOf : ℤ → ℕ
+indexOf a = natAbs (down a (pos 256))
+
+unfoldable pub sineAt : ℤ → ℤ
+sineAt a = sineEntry (indexOf a)
+
+-- cosine is index + 64, modulo 256
+unfoldable pub cosineAt : ℤ → ℤ
+cosineAt a = sineEntry ((indexOf a + 64) % 256)
