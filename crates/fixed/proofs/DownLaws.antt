@@ -1,7 +1,7 @@
 -- Laws of `down`. The two that settle it are `down-low` and `down-high`, d·q ≤ x < d·q + d for q = down x d, and `down-unique`, that
 -- no other q has both: so the definition is the quotient rounded towards minus infinity.
 -- Assumes nothing.
-use mathlib.Core.Path.{_≡_, refl, sym, ap}
+use mathlib.Core.Path.{_≡_, sym, ap}
 use Prim.Native.Nat.{ℕ, zero, suc, _+_, _*_, _/_, _%_, _≤_, _<_}
 use native.Mathlib.Nat.{div-add-mod, mod-lt, div-le-self, div-mul-le-self, le-div-iff-mul-le, le-trans, le-suc}
 use native.Mathlib.Omega.{arith}

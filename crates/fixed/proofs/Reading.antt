@@ -12,6 +12,7 @@
 --     stored w r tt            what r reads once it is in a local or an argument, or cast to another signed width
 --     whole w r f              the same for a value that may fill its width: f : SFits w v
 --     named r e                the same number under another name
+--     unsigned r h tt          answers a cast to an unsigned width, with h : pos 0 ≤ℤ v
 --     fits r tt                answers that u fits;  bound r tt  answers natAbs u ≤ k;  r .is  is the equation u ≡ v
 --     is-less, not-less, at-most, not-at-most      what a test `<`, `<=` that came out true or false says of the numbers
 -- `reads` is the same as rewriting rules, for goals in which the numbers stand inside something larger: `simp (reads, f, g, ..) t`, with a
@@ -25,10 +26,10 @@ use native.Mathlib.Nat.{le-trans, lt-of-le-of-lt}
 use native.Mathlib.Omega.{arith}
 use lib.Dec.{T, ltb, leb, ltb→lt, leb→le}
 use lib.IntN.{ℤ, pos, negsuc, negℤ, natAbs, _+ℤ_, _-ℤ_, _*ℤ_, +ℤ-idl}
-use lib.Signed.{_≤ℤ_, _<ℤ_, mag, ltZ, leZ, ltZ-yes, ltZ-no, leZ-yes}
+use lib.Signed.{_≤ℤ_, _<ℤ_, mag, nonNeg, ltZ, leZ, ltZ-yes, ltZ-no, leZ-yes, yes-nonNeg}
 use mir.Facts.{toZ-ofZ}
 use mir.Syntax.{Width, w32, w64}
-use mir.Val.{SFits, toZ, ofZ, hbits}
+use mir.Val.{Fits, SFits, toZ, ofZ, bits, hbits}
 use Rattle.fixed.specs.Fixed.{down}
 use Rattle.fixed.proofs.Parts.{order}
 use Rattle.fixed.proofs.DownLaws.{down-size}
@@ -98,6 +99,10 @@ fits {w} {m = m} r t = subst (λ (z : ℤ). SFits w z) (sym (r .is)) (small m t 
 
 pub bound : {u v : ℤ} {m k : ℕ} → Reads u v m → T (leb m k) → natAbs u ≤ k
 bound {m = m} {k} r t = subst (λ (z : ℤ). natAbs z ≤ k) (sym (r .is)) (le-trans (r .size) (leb→le m k t))
+
+pub unsigned : {w : Width} {u v : ℤ} {m : ℕ} → Reads u v m → pos 0 ≤ℤ v → T (ltb m (2 ^ bits w)) → T (nonNeg u) × Fits w (natAbs u)
+unsigned {w} {m = m} r h t =
+    rw (r .is) (yes-nonNeg h, record { fits = lt-of-le-of-lt (r .size) (ltb→lt m (2 ^ bits w) t) })
 
 -- ════ tests
 pub test-< : {a b : ℤ} → ltZ a b ≡ true → a <ℤ b

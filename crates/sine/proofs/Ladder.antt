@@ -1,21 +1,14 @@
--- Laws of the sine table's definition. The root is the root rounded down; every entry lies within ±4096, by one test that antt computes;
--- and a list of 256 numbers that passes one test, which antt computes too, is the table.
+-- The ladder's roots are roots: r·r ≤ n < (r + 1)·(r + 1), of each number whose root it takes.
 -- Assumes nothing.
-use mathlib.Core.Path.{_≡_, refl, ap, _∙_, subst, sym}
-use mathlib.Core.List.{List}
+use mathlib.Core.Path.{_≡_, subst}
 use mathlib.Core.Bool.{Bool, true, false, not, cond}
 use Prim.Native.Nat.{ℕ, zero, suc, _+_, _*_, _-_, _/_, _^_, _≤_, _<_}
 use native.Mathlib.Nat.{lt-of-le-of-lt, div-le-self}
 use native.Mathlib.Omega.{arith}
-use lib.Dec.{T, eqb, eqb→eq, leb, leb→le, nleb→lt, ltb}
-use lib.IntN.{ℤ, pos, negsuc, natAbs}
-use lib.ListN.{getD}
+use lib.Dec.{T, leb, leb→le, nleb→lt}
 use lib.Pow.{pow-add}
-use Rattle.fixed.specs.Fixed.{down}
-use Rattle.sine.specs.Sine.{scale, sineEntry, half, rising, turned, turn, cos1, cos2, sin1, halved, root, rootFrom}
-use Rattle.sine.proofs.Upto.{upto, upto-at}
+use Rattle.sine.specs.Sine.{scale, cos2, sin1, halved, root, rootFrom}
 
--- ---- the root
 pub record IsRoot (n r : ℕ) : Type 0 where
   pub low : r * r ≤ n
   pub high : n < (r + 1) * (r + 1)
@@ -50,32 +43,3 @@ halved-is c h = root-is (scale * (scale + c) / 2) (below (scale * (scale + c)) (
 pub sin1-is : IsRoot (scale * (scale - cos2) / 2) sin1
 unfolding sin1
 sin1-is = root-is (scale * (scale - cos2) / 2) (below (scale * (scale - cos2)) (omega arith))
-
--- ---- the table
-abbrev eqZ : ℤ → ℤ → Bool
-eqZ (pos a) (pos b) = eqb a b
-eqZ (negsuc a) (negsuc b) = eqb a b
-eqZ (pos a) (negsuc b) = false
-eqZ (negsuc a) (pos b) = false
-
-eqZ→eq : (a b : ℤ) → T (eqZ a b) → a ≡ b
-eqZ→eq (pos a) (pos b) t = ap pos (eqb→eq a b t)
-eqZ→eq (negsuc a) (negsuc b) t = ap negsuc (eqb→eq a b t)
-eqZ→eq (pos a) (negsuc b) t = absurd t
-eqZ→eq (negsuc a) (pos b) t = absurd t
-
--- the first 256 numbers of the list are the ladder's: antt computes this at a list that is written out
-abbrev rightAt : List ℤ → ℕ → Bool
-rightAt xs k = eqZ (getD xs k (pos 0)) (sineEntry k)
-
-unfoldable pub Tabled : List ℤ → Type 0
-Tabled xs = T (upto (rightAt xs) 256)
-
-pub entry-is : (xs : List ℤ) → Tabled xs → (k : ℕ) → k < 256 → getD xs k (pos 0) ≡ sineEntry k
-unfolding Tabled
-entry-is xs t k h = eqZ→eq (getD xs k (pos 0)) (sineEntry k) (upto-at (rightAt xs) 256 t k h)
-
--- every entry lies within ±4096
-pub entry-size : (k : ℕ) → k < 256 → natAbs (sineEntry k) ≤ 4096
-unfolding sineEntry half rising turned turn cos1 cos2 sin1 halved root rootFrom down
-entry-size k h = leb→le (natAbs (sineEntry k)) 4096 (upto-at (λ (j : ℕ). leb (natAbs (sineEntry j)) 4096) 256 tt k h)

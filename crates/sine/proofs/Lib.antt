@@ -1,3 +1,2 @@
-pub mod Upto
 pub mod Ladder
-pub mod Readings
+pub mod Rule

@@ -2,8 +2,10 @@
 -- at the scale S = 2^40 and turning step by step, all whole numbers, all rounded down.
 use Prim.Native.Nat.{ℕ, zero, suc, _+_, _*_, _-_, _/_, _%_, _^_}
 use mathlib.Core.Bool.{cond}
+use mathlib.Core.List.{List, [], _∷_}
 use lib.Dec.{leb}
 use lib.IntN.{ℤ, pos, negℤ, natAbs, _+ℤ_, _-ℤ_, _*ℤ_}
+use lib.ListN.{getD}
 use lib.Signed.{_≤ℤ_}
 use Rattle.fixed.specs.Fixed.{down}
 
@@ -72,9 +74,24 @@ pub record Angle (a : ℤ) : Type 0 where
 unfoldable pub indexOf : ℤ → ℕ
 indexOf a = natAbs (down a (pos 256))
 
-unfoldable pub sineAt : ℤ → ℤ
-sineAt a = sineEntry (indexOf a)
+-- n entries from entry k on, and the table
+unfoldable pub entriesFrom : ℕ → ℕ → List ℤ
+entriesFrom k zero = []
+entriesFrom k (suc n) = sineEntry k ∷ entriesFrom (suc k) n
+
+unfoldable pub sineTable : List ℤ
+sineTable = entriesFrom 0 256
+
+-- the sine of an angle in a table
+unfoldable pub sineIn : List ℤ → ℤ → ℤ
+sineIn t a = getD t (indexOf a) (pos 0)
 
 -- cosine is index + 64, modulo 256
+unfoldable pub cosineIn : List ℤ → ℤ → ℤ
+cosineIn t a = getD t ((indexOf a + 64) % 256) (pos 0)
+
+unfoldable pub sineAt : ℤ → ℤ
+sineAt a = sineIn sineTable a
+
 unfoldable pub cosineAt : ℤ → ℤ
-cosineAt a = sineEntry ((indexOf a + 64) % 256)
+cosineAt a = cosineIn sineTable a

@@ -1,10 +1,12 @@
 // The sine table and its two readings.
 ghost use mathlib.Core.Path.{_≡_};
-ghost use Prim.Native.Nat.{_<_};
-ghost use Rattle.sine.specs.Sine.{sineEntry, Angle, indexOf, sineAt, cosineAt};
+ghost use Rattle.sine.specs.Sine.{sineTable, Angle, indexOf, sineIn, cosineIn, sineAt, cosineAt};
+
+// How the table is stored is known in this file alone.
+pub type Table = [i32; 256];
 
 // 4096·sin(2πk/256), to the nearest whole number.
-const SINE: [i32; 256] = [
+const SINE: Table = [
     0,
     101,
     201,
@@ -263,12 +265,11 @@ const SINE: [i32; 256] = [
     -101,
 ];
 
-// How the table is stored is known here alone.
-pub fn entry(i: usize) -> i32
-    requires { ⌜ i < 256 ⌝ }
-    ensures { λ r. ⌜ r ≡ sineEntry i ⌝ }
+// A reader of many angles makes the table once and lends it: a constant is written out anew by each call that names it.
+pub fn table() -> Table
+    ensures { λ r. ⌜ r ≡ sineTable ⌝ }
 {
-    SINE[i]
+    SINE
 }
 
 // Which entry an angle reads.
@@ -279,18 +280,38 @@ fn index(angle: i32) -> usize
     angle as usize / 256
 }
 
-// The sine of an angle 0..65535, 65536 to the turn. How an angle is read is known here and in `cosine` alone.
+// The sine of an angle 0..65535, 65536 to the turn, in a table that was made before.
+pub fn sine_in(t: &Table, angle: i32) -> i32
+    requires { ⌜ Angle angle ⌝ }
+    ensures { λ r. ⌜ r ≡ sineIn (now (t .entry)) angle ⌝ }
+{
+    let i = index(angle);
+    t[i]
+}
+
+// The cosine: a quarter of the table on.
+pub fn cosine_in(t: &Table, angle: i32) -> i32
+    requires { ⌜ Angle angle ⌝ }
+    ensures { λ r. ⌜ r ≡ cosineIn (now (t .entry)) angle ⌝ }
+{
+    let i = (index(angle) + 64) % 256;
+    t[i]
+}
+
+// The sine of one angle.
 pub fn sine(angle: i32) -> i32
     requires { ⌜ Angle angle ⌝ }
     ensures { λ r. ⌜ r ≡ sineAt angle ⌝ }
 {
-    entry(index(angle))
+    let t = table();
+    sine_in(&t, angle)
 }
 
-// The cosine: a quarter of the table on.
+// The cosine of one angle.
 pub fn cosine(angle: i32) -> i32
     requires { ⌜ Angle angle ⌝ }
     ensures { λ r. ⌜ r ≡ cosineAt angle ⌝ }
 {
-    entry((index(angle) + 64) % 256)
+    let t = table();
+    cosine_in(&t, angle)
 }

@@ -2,7 +2,7 @@
 -- Assumes nothing.
 use mathlib.Core.Path.{_≡_}
 use lib.IntN.{ℤ, pos, _-ℤ_}
-use lib.Signed.{_<ℤ_, quotZ, remZ}
+use lib.Signed.{quotZ, remZ}
 use mir.Syntax.{w64}
 use mir.Val.{SFits}
 use Rattle.fixed.specs.Fixed.{down as downOf}

@@ -1,14 +1,10 @@
 -- `sine::index` meets its contract: an angle is not negative, so that its quotient rounds down.
 -- Assumes nothing.
-use mathlib.Core.Path.{_≡_, refl, sym, ap, _∙_, subst}
-use Prim.Native.Nat.{ℕ, _/_, _<_}
-use lib.Dec.{T, lit<}
+use mathlib.Core.Path.{_≡_, refl, ap, _∙_}
+use Prim.Native.Nat.{_/_}
 use lib.IntN.{ℤ, pos, negsuc, natAbs}
-use lib.Signed.{nonNeg, yes-nonNeg}
-use mir.Facts.{fits-natAbs}
-use mir.Syntax.{w32, w64}
 use Rattle.fixed.specs.Fixed.{down}
-use Rattle.fixed.proofs.Reading.{word}
+use Rattle.fixed.proofs.Reading.{word, unsigned}
 use Rattle.sine.specs.Sine.{Angle, indexOf}
 use Rattle.sine.proofs.index.Statement.{statement}
 use Rattle.sine.proofs.index.Tie as tie
@@ -19,7 +15,7 @@ quotient (pos n) h = refl
 quotient (negsuc n) h = absurd (h .lo .le)
 
 cast-result : tie.Need-cast-result
-cast-result c = rw (word (c .fits .angle) .is) (yes-nonNeg (c .pre .lo), fits-natAbs tt (c .fits .angle))
+cast-result c = unsigned (word (c .fits .angle)) (c .pre .lo) tt
 
 returns : tie.Need-returns
 returns c = ap (λ (a : ℤ). natAbs a / 256) (word (c .fits .angle) .is) ∙ quotient (c .args .angle) (c .pre)

@@ -1,0 +1,103 @@
+-- The table's rule, proved over the table as one. A list of numbers that passes one test against the ladder, which computes at a list that
+-- is written out, is the table; each entry of the table is the ladder's; and sine and cosine lie within ±4096, by one more such test.
+-- Assumes nothing.
+use mathlib.Core.Path.{_≡_, refl, ap, ap₂, _∙_}
+use mathlib.Core.List.{List, [], _∷_}
+use mathlib.Core.Bool.{Bool, true, false, _&&_}
+use Prim.Native.Nat.{ℕ, zero, suc, _+_, _%_, _≤_, _<_}
+use native.Mathlib.Nat.{le-of-suc-le-suc, not-suc-le-zero}
+use native.Mathlib.Omega.{arith}
+use lib.Dec.{T, eqb, eqb→eq, leb, leb→le}
+use lib.IntN.{ℤ, pos, negsuc, natAbs}
+use lib.ListN.{getD}
+use Rattle.fixed.specs.Fixed.{down}
+use Rattle.fixed.proofs.Parts.{order}
+use Rattle.sine.specs.Sine.{sineEntry, half, rising, turned, turn, cos1, cos2, sin1, halved, root, rootFrom, entriesFrom, sineTable, Angle, indexOf, sineIn, cosineIn, sineAt, cosineAt}
+
+and-left : (a b : Bool) → T (a && b) → T a
+and-left true b t = tt
+and-left false b t = t
+
+and-right : (a b : Bool) → T (a && b) → T b
+and-right true b t = t
+and-right false b t = absurd t
+
+-- ════ two lists of numbers are the same
+abbrev eqZ : ℤ → ℤ → Bool
+eqZ (pos a) (pos b) = eqb a b
+eqZ (negsuc a) (negsuc b) = eqb a b
+eqZ (pos a) (negsuc b) = false
+eqZ (negsuc a) (pos b) = false
+
+eqZ→eq : (a b : ℤ) → T (eqZ a b) → a ≡ b
+eqZ→eq (pos a) (pos b) t = ap pos (eqb→eq a b t)
+eqZ→eq (negsuc a) (negsuc b) t = ap negsuc (eqb→eq a b t)
+eqZ→eq (pos a) (negsuc b) t = absurd t
+eqZ→eq (negsuc a) (pos b) t = absurd t
+
+abbrev pub same : List ℤ → List ℤ → Bool
+same [] [] = true
+same [] (y ∷ ys) = false
+same (x ∷ xs) [] = false
+same (x ∷ xs) (y ∷ ys) = eqZ x y && same xs ys
+
+pub same→eq : (xs ys : List ℤ) → T (same xs ys) → xs ≡ ys
+same→eq [] [] t = refl
+same→eq [] (y ∷ ys) t = absurd t
+same→eq (x ∷ xs) [] t = absurd t
+same→eq (x ∷ xs) (y ∷ ys) t =
+    ap₂ (λ (z : ℤ) (zs : List ℤ). z ∷ zs) (eqZ→eq x y (and-left (eqZ x y) (same xs ys) t)) (same→eq xs ys (and-right (eqZ x y) (same xs ys) t))
+
+-- ════ each entry of the table is the ladder's
+from-at : (j n k : ℕ) → k < n → getD (entriesFrom j n) k (pos 0) ≡ sineEntry (j + k)
+unfolding entriesFrom
+from-at j zero k h = absurd (not-suc-le-zero h)
+from-at j (suc n) zero h = ap sineEntry (omega arith)
+from-at j (suc n) (suc k) h = from-at (suc j) n k (le-of-suc-le-suc h) ∙ ap sineEntry (omega arith)
+
+pub entry-at : (k : ℕ) → k < 256 → getD sineTable k (pos 0) ≡ sineEntry k
+unfolding sineTable
+entry-at k h = from-at 0 256 k h ∙ ap sineEntry (omega arith)
+
+-- ════ within ±4096
+abbrev inside : ℤ → Bool
+inside z = leb (natAbs z) 4096
+
+abbrev all : List ℤ → Bool
+all [] = true
+all (z ∷ zs) = inside z && all zs
+
+all-at : (zs : List ℤ) (k : ℕ) → T (all zs) → T (inside (getD zs k (pos 0)))
+all-at [] k t = tt
+all-at (z ∷ zs) zero t = and-left (inside z) (all zs) t
+all-at (z ∷ zs) (suc k) t = all-at zs k (and-right (inside z) (all zs) t)
+
+table-inside : T (all sineTable)
+unfolding sineTable entriesFrom sineEntry half rising turned turn cos1 cos2 sin1 halved root rootFrom down
+table-inside = tt
+
+entry-size : (k : ℕ) → natAbs (getD sineTable k (pos 0)) ≤ 4096
+entry-size k = leb→le (natAbs (getD sineTable k (pos 0))) 4096 (all-at sineTable k table-inside)
+
+-- ════ what stands above this crate needs of the two readings
+pub index-below : (a : ℤ) → Angle a → indexOf a < 256
+unfolding indexOf down
+index-below (pos n) h = omega (arith, order, h .hi)
+index-below (negsuc n) h = absurd (h .lo .le)
+
+pub sine-size : (a : ℤ) → natAbs (sineAt a) ≤ 4096
+unfolding sineAt sineIn
+sine-size a = entry-size (indexOf a)
+
+pub cosine-size : (a : ℤ) → natAbs (cosineAt a) ≤ 4096
+unfolding cosineAt cosineIn
+cosine-size a = entry-size ((indexOf a + 64) % 256)
+
+-- the readings in a table that is the sine's
+pub sine-in-is : (t : List ℤ) (a : ℤ) → t ≡ sineTable → sineIn t a ≡ sineAt a
+unfolding sineAt
+sine-in-is t a e = ap (λ (l : List ℤ). sineIn l a) e
+
+pub cosine-in-is : (t : List ℤ) (a : ℤ) → t ≡ sineTable → cosineIn t a ≡ cosineAt a
+unfolding cosineAt
+cosine-in-is t a e = ap (λ (l : List ℤ). cosineIn l a) e

@@ -1,0 +1,36 @@
+-- `sine::sine_in` meets its contract.
+-- Assumes nothing.
+use borrow.Author.Needs.{needs}
+use mathlib.Core.Path.{_≡_, ap, _∙_, sym, subst}
+use Prim.Native.Nat.{ℕ, _<_}
+use native.Mathlib.Omega.{arith}
+use lib.IntN.{pos}
+use lib.ListN.{getD}
+use mir.Syntax.{w32}
+use Rattle.fixed.proofs.Reading.{word, answer}
+use Rattle.sine.specs.Sine.{indexOf, sineIn}
+use Rattle.sine.proofs.Rule.{index-below}
+use Rattle.sine.proofs.sine_in.Statement.{statement}
+use Rattle.sine.proofs.sine_in.Tie as tie
+
+index-requires : tie.Need-index-requires
+index-requires c κs = search needs
+
+i-is : (c : tie.After-index) → c .index .result ≡ indexOf (c .before .args .angle)
+i-is c = c .index .ensures ∙ ap indexOf (word (c .before .fits .angle) .is)
+
+i-below : (c : tie.After-index) → c .index .result < 256
+i-below c = subst (λ (i : ℕ). i < 256) (sym (i-is c)) (index-below (c .before .args .angle) (c .before .pre))
+
+mul-result : tie.Need-mul-result
+mul-result c = record { fits = omega (arith, i-below c) }
+
+element-copy-out-result : tie.Need-element-copy-out-result
+element-copy-out-result c = i-below c
+
+returns : tie.Need-returns
+unfolding sineIn
+returns c = answer w32 (c .result .given) .is ∙ ap (λ (i : ℕ). getD (c .before .before .args .t .now) i (pos 0)) (i-is (c .before))
+
+pub sine-in-spec : {M : Type 1} → statement M
+sine-in-spec = tie.close (tie.spec index-requires mul-result element-copy-out-result returns)
