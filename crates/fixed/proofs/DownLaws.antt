@@ -1,9 +1,9 @@
 -- Laws of `down`. The two that settle it are `down-low` and `down-high`, d·q ≤ x < d·q + d for q = down x d, and `down-unique`, that
 -- no other q has both: so the definition is the quotient rounded towards minus infinity.
 -- Assumes nothing.
-use mathlib.Core.Path.{_≡_, sym, ap}
+use mathlib.Core.Path.{_≡_, sym, ap, _∙_}
 use Prim.Native.Nat.{ℕ, zero, suc, _+_, _*_, _/_, _%_, _≤_, _<_}
-use native.Mathlib.Nat.{div-add-mod, mod-lt, div-le-self, div-mul-le-self, le-div-iff-mul-le, le-trans, le-suc}
+use native.Mathlib.Nat.{div-add-mod, mod-lt, div-le-self, div-mul-le-self, div-le-of-le-mul, div-lt-iff-lt-mul, le-div-iff-mul-le, le-trans, le-suc}
 use native.Mathlib.Omega.{arith}
 use lib.Dec.{T, ltb, ltb→lt}
 use lib.IntN.{ℤ, pos, negsuc, negℤ, natAbs, _+ℤ_, _-ℤ_, _*ℤ_}
@@ -11,9 +11,9 @@ use lib.Signed.{_≤ℤ_, _<ℤ_, mag, mag-rem, quotZ, remZ}
 use mir.Syntax.{Width}
 use mir.Val.{SFits}
 use mir.ValLaws.{sfits-le}
-use Rattle.fixed.proofs.Parts.{P, N, order, diffs, is-diff, parts-+, parts-*, P-neg, N-neg}
+use Rattle.fixed.proofs.Parts.{P, N, order, diffs, is-diff, parts-+, parts--, parts-*, P-neg, N-neg}
 use Rattle.fixed.proofs.Ring.{*-cancel-<}
-use Rattle.fixed.specs.Fixed.{downBy, down}
+use Rattle.fixed.specs.Fixed.{downBy, down, modulo}
 
 -- ════ by a natural m > 0: m·q ≤ x < m·q + m, in parts, which is linear where m is a numeral
 pub by-low : (x : ℤ) (m : ℕ) → 0 < m → m * P (downBy x m) + N x ≤ m * N (downBy x m) + P x
@@ -62,6 +62,16 @@ down-unique x d q h l u = omega (arith, order, le-down x d q h l, down-lt x d (q
     step : (x d q : ℤ) → x <ℤ (d *ℤ q +ℤ d) → x <ℤ (d *ℤ (q +ℤ pos 1))
     step x d q = rw (is-diff x, is-diff d, is-diff q) (simp diffs (omega arith))
 
+-- x is d·q + r with r within 0..d − 1: then q is its quotient
+rest-low : (x d q r : ℤ) → x ≡ d *ℤ q +ℤ r → pos 0 ≤ℤ r → (d *ℤ q) ≤ℤ x
+rest-low x d q r = rw (is-diff x, is-diff d, is-diff q, is-diff r) (simp diffs (omega arith))
+
+rest-high : (x d q r : ℤ) → x ≡ d *ℤ q +ℤ r → r <ℤ d → x <ℤ (d *ℤ q +ℤ d)
+rest-high x d q r = rw (is-diff x, is-diff d, is-diff q, is-diff r) (simp diffs (omega arith))
+
+down-rest : (x d q r : ℤ) → x ≡ d *ℤ q +ℤ r → pos 0 ≤ℤ r → r <ℤ d → q ≡ down x d
+down-rest x d q r e l u = down-unique x d q (omega (arith, order)) (rest-low x d q r e l) (rest-high x d q r e u)
+
 pub down-mono : (x y d : ℤ) → pos 0 <ℤ d → x ≤ℤ y → down x d ≤ℤ down y d
 down-mono x y d h k = le-down y d (down x d) h (omega (arith, order, down-low x d h))
 
@@ -87,8 +97,32 @@ unfolding down
 down-size (pos a) k m t h = omega (arith, part-mono k a m t h)
 down-size (negsuc a) k m t h = omega (arith, part-mono k a m t (le-trans (le-suc a) h))
 
+-- and no more than m where x is at most m times k
+pub down-within : (x : ℤ) (k m : ℕ) → T (ltb 0 k) → natAbs x ≤ m * k → natAbs (down x (pos k)) ≤ m
+unfolding down
+down-within (pos a) k m t h = div-le-of-le-mul k (omega arith)
+down-within (negsuc a) k m t h = div-lt-iff-lt-mul (ltb→lt 0 k t) .1 h
+
 pub down-fits : (w : Width) (x d : ℤ) → pos 0 <ℤ d → SFits w x → SFits w (down x d)
 down-fits w x d h = sfits-le (down-mag x d h)
+
+-- ════ what a quotient rounded down leaves
+pub modulo-lo : (x d : ℤ) → pos 0 <ℤ d → pos 0 ≤ℤ modulo x d
+unfolding modulo
+modulo-lo x d h = omega (arith, order, down-low x d h, parts-- x (d *ℤ down x d))
+
+pub modulo-hi : (x d : ℤ) → pos 0 <ℤ d → modulo x d <ℤ d
+unfolding modulo
+modulo-hi x d h = omega (arith, order, down-high x d h, parts-- x (d *ℤ down x d), parts-+ (d *ℤ down x d) d)
+
+-- and nothing else within 0..d − 1 is a multiple of d away from x
+pub modulo-unique : (x d q r : ℤ) → x ≡ d *ℤ q +ℤ r → pos 0 ≤ℤ r → r <ℤ d → r ≡ modulo x d
+unfolding modulo
+modulo-unique x d q r e l u =
+    left x d q r e ∙ ap (λ (k : ℤ). x -ℤ d *ℤ k) (down-rest x d q r e l u)
+  where
+    left : (x d q r : ℤ) → x ≡ d *ℤ q +ℤ r → r ≡ x -ℤ d *ℤ q
+    left x d q r = rw (is-diff x, is-diff d, is-diff q, is-diff r) (simp diffs (omega arith))
 
 -- ════ the machine's quotient and remainder, which round towards 0
 mag-neg : (r : ℕ) {a : ℕ} → r ≤ suc a → mag (negℤ (pos r)) ≤ a
@@ -136,10 +170,4 @@ quot-down x d h k = down-unique x d (quotZ x d -ℤ pos 1) h (low x d (quotZ x d
     high x d q r = rw (is-diff x, is-diff d, is-diff q, is-diff r) (simp diffs (omega arith))
 
 pub quot-same : (x d : ℤ) → pos 0 <ℤ d → pos 0 ≤ℤ remZ x d → quotZ x d ≡ down x d
-quot-same x d h k = down-unique x d (quotZ x d) h (low x d (quotZ x d) (remZ x d) (quot-rem x d h) k) (high x d (quotZ x d) (remZ x d) (quot-rem x d h) (rem-hi x d h))
-  where
-    low : (x d q r : ℤ) → x ≡ d *ℤ q +ℤ r → pos 0 ≤ℤ r → (d *ℤ q) ≤ℤ x
-    low x d q r = rw (is-diff x, is-diff d, is-diff q, is-diff r) (simp diffs (omega arith))
-
-    high : (x d q r : ℤ) → x ≡ d *ℤ q +ℤ r → r <ℤ d → x <ℤ (d *ℤ q +ℤ d)
-    high x d q r = rw (is-diff x, is-diff d, is-diff q, is-diff r) (simp diffs (omega arith))
+quot-same x d h k = down-rest x d (quotZ x d) (remZ x d) (quot-rem x d h) k (rem-hi x d h)

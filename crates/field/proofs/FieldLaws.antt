@@ -1,0 +1,59 @@
+-- What the flux model keeps: the flux lies between where it was and d, so that it stays within whatever bounds both; the slip is within
+-- ±16383; the angle is within 0..65535.
+-- Assumes nothing.
+use mathlib.Core.Path.{_≡_}
+use Prim.Native.Nat.{ℕ, _≤_}
+use native.Mathlib.Omega.{arith}
+use lib.Dec.{lit<}
+use lib.IntN.{ℤ, pos, negℤ, natAbs, _+ℤ_, _-ℤ_, _*ℤ_}
+use lib.Signed.{_≤ℤ_, _<ℤ_, ltZ, ltZ-yes}
+use Rattle.fixed.specs.Fixed.{down, held}
+use Rattle.fixed.proofs.Parts.{order, diffs, is-diff, cond-ind, parts-+, parts--, parts-*}
+use Rattle.fixed.proofs.Ring.{*-nonneg, gap-up, gap-down}
+use Rattle.fixed.proofs.Between.{Between, between-size}
+use Rattle.fixed.proofs.DownLaws.{down-low-parts, down-high-parts, modulo-lo, modulo-hi}
+use Rattle.fixed.proofs.HeldLaws.{held-size, if-less, if-not-less}
+use Rattle.field.specs.Field.{fluxNext, slip, angleNext}
+
+-- 0 ≤ k ≤ 4096: k·g lies between 0 and 4096·g
+up-hi : (k g : ℤ) → pos 0 ≤ℤ ((pos 4096 -ℤ k) *ℤ g) → (k *ℤ g) ≤ℤ (pos 4096 *ℤ g)
+up-hi k g = rw (is-diff k, is-diff g) (simp diffs (omega arith))
+
+down-lo : (k g : ℤ) → pos 0 ≤ℤ ((pos 4096 -ℤ k) *ℤ negℤ g) → (pos 4096 *ℤ g) ≤ℤ (k *ℤ g)
+down-lo k g = rw (is-diff k, is-diff g) (simp diffs (omega arith))
+
+down-hi : (k g : ℤ) → pos 0 ≤ℤ (k *ℤ negℤ g) → (k *ℤ g) ≤ℤ pos 0
+down-hi k g = rw (is-diff k, is-diff g) (simp diffs (omega arith))
+
+pub flux-between : (kr flux d : ℤ) → pos 0 ≤ℤ kr → kr ≤ℤ pos 4096 → Between flux (fluxNext kr flux d) d
+unfolding fluxNext
+flux-between kr flux d k0 k1 =
+    record {
+      rising = λ h. omega (arith, order, parts-- d flux, parts-+ flux (down (kr *ℤ (d -ℤ flux)) (pos 4096)), down-low-parts (kr *ℤ (d -ℤ flux)) 4096 (lit< tt), down-high-parts (kr *ℤ (d -ℤ flux)) 4096 (lit< tt), parts-* (pos 4096) (d -ℤ flux), *-nonneg k0 (gap-up flux d h), up-hi kr (d -ℤ flux) (*-nonneg (gap-up kr (pos 4096) k1) (gap-up flux d h)));
+      falling = λ h. omega (arith, order, parts-- d flux, parts-+ flux (down (kr *ℤ (d -ℤ flux)) (pos 4096)), down-low-parts (kr *ℤ (d -ℤ flux)) 4096 (lit< tt), down-high-parts (kr *ℤ (d -ℤ flux)) 4096 (lit< tt), parts-* (pos 4096) (d -ℤ flux), down-hi kr (d -ℤ flux) (*-nonneg k0 (gap-down d flux h)), down-lo kr (d -ℤ flux) (*-nonneg (gap-up kr (pos 4096) k1) (gap-down d flux h)));
+    }
+
+-- so it stays within ±20000, as d does
+pub flux-size : (kr flux d : ℤ) (m : ℕ) → pos 0 ≤ℤ kr → kr ≤ℤ pos 4096 → natAbs flux ≤ m → natAbs d ≤ m → natAbs (fluxNext kr flux d) ≤ m
+flux-size kr flux d m k0 k1 = between-size m (flux-between kr flux d k0 k1)
+
+-- below 41 the slip is 0, from 41 on it is the quotient
+pub slip-none : (kt flux q : ℤ) → flux <ℤ pos 41 → slip kt flux q ≡ pos 0
+unfolding slip
+slip-none kt flux q h = if-less flux (pos 41) _ _ h
+
+pub slip-some : (kt flux q : ℤ) → pos 41 ≤ℤ flux → slip kt flux q ≡ held (down (kt *ℤ q) flux) (negℤ (pos 16383)) (pos 16383)
+unfolding slip
+slip-some kt flux q h = if-not-less flux (pos 41) _ _ h
+
+pub slip-size : (kt flux q : ℤ) → natAbs (slip kt flux q) ≤ 16383
+unfolding slip
+slip-size kt flux q = cond-ind (ltZ flux (pos 41)) _ _ (λ z. natAbs z ≤ 16383) (λ t. omega arith) (λ t. held-size (down (kt *ℤ q) flux) 16383)
+
+pub angle-lo : (kth angle w : ℤ) → pos 0 ≤ℤ angleNext kth angle w
+unfolding angleNext
+angle-lo kth angle w = modulo-lo _ (pos 65536) (ltZ-yes tt)
+
+pub angle-hi : (kth angle w : ℤ) → angleNext kth angle w ≤ℤ pos 65535
+unfolding angleNext
+angle-hi kth angle w = omega (arith, order, modulo-hi (angle +ℤ down (kth *ℤ w) (pos 4096)) (pos 65536) (ltZ-yes tt))

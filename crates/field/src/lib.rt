@@ -1,0 +1,52 @@
+// The flux model: how much flux the rotor has, how fast it slips, and at which angle it stands.
+ghost use mathlib.Core.Path.{_≡_};
+ghost use Prim.Native.Nat.{_≤_};
+ghost use lib.IntN.{natAbs, _+ℤ_};
+ghost use Rattle.field.specs.Field.{fluxNext, slip as slipOf, angleNext, followed as followedOf, Sized};
+
+pub struct Field {
+    pub flux: i32,
+    pub angle: i32,
+}
+
+// The flux follows d with the rotor's time constant.
+pub fn flux_next(kr: i32, flux: i32, d: i32) -> i32
+    requires { ⌜ (natAbs kr ≤ 4096) × (natAbs flux ≤ 20000) × (natAbs d ≤ 20000) ⌝ }
+    ensures { λ r. ⌜ r ≡ fluxNext kr flux d ⌝ }
+{
+    let change = fixed::scaled(kr, d - flux, 4096) as i32;
+    flux + change
+}
+
+// The slip; where there is hardly any flux it is not divided by.
+pub fn slip(kt: i32, flux: i32, q: i32) -> i32
+    ensures { λ r. ⌜ r ≡ slipOf kt flux q ⌝ }
+{
+    if flux < 41 {
+        0
+    } else {
+        fixed::hold_to(fixed::scaled(kt, q, flux), 16383)
+    }
+}
+
+// The angle after the step, from the speed n and the slip s. The remainder is a floor's: a negative angle comes round from the top.
+pub fn angle_next(kth: i32, angle: i32, n: i32, s: i32) -> i32
+    requires { ⌜ (natAbs kth ≤ 8191) × (natAbs angle ≤ 65535) × (natAbs n ≤ 16383) × (natAbs s ≤ 16383) ⌝ }
+    ensures { λ r. ⌜ r ≡ angleNext kth angle (n +ℤ s) ⌝ }
+{
+    let a = angle as i64 + fixed::scaled(kth, n + s, 4096);
+    (a - 65536 * fixed::down(a, 65536)) as i32
+}
+
+// Rule 6.
+pub fn followed(kr: i32, kt: i32, kth: i32, f: Field, d: i32, q: i32, n: i32) -> Field
+    requires { ⌜ Sized kr kt kth f d q n ⌝ }
+    ensures { λ r. ⌜ r ≡ followedOf kr kt kth f d q n ⌝ }
+{
+    let flux = flux_next(kr, f.flux, d);
+    let s = slip(kt, flux, q);
+    Field {
+        flux: flux,
+        angle: angle_next(kth, f.angle, n, s),
+    }
+}

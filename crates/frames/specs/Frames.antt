@@ -1,0 +1,31 @@
+-- From phase currents to the rotor's frame and back (document 01, rules 3, 5 and 8).
+use Prim.Native.Nat.{_≤_}
+use lib.IntN.{ℤ, pos, natAbs, _+ℤ_, _-ℤ_, _*ℤ_}
+use Rattle.fixed.specs.Fixed.{down}
+use Rattle.frames.specs.declared.Stator.{Stator}
+use Rattle.frames.specs.declared.Rotor.{Rotor}
+
+-- α = ia; β = (2·ib + ia)·2365/4096 down
+unfoldable pub clarke : ℤ → ℤ → Stator
+clarke ia ib = record { alpha = ia; beta = down ((pos 2 *ℤ ib +ℤ ia) *ℤ pos 2365) (pos 4096) }
+
+-- d = (α·cos + β·sin)/4096 down; q = (β·cos − α·sin)/4096 down: each sum is rounded once
+unfoldable pub park : Stator → ℤ → ℤ → Rotor
+park v sin cos = record {
+  d = down (v .alpha *ℤ cos +ℤ v .beta *ℤ sin) (pos 4096);
+  q = down (v .beta *ℤ cos -ℤ v .alpha *ℤ sin) (pos 4096);
+}
+
+-- vα = (vd·cos − vq·sin)/4096 down; vβ = (vq·cos + vd·sin)/4096 down
+unfoldable pub inversePark : Rotor → ℤ → ℤ → Stator
+inversePark v sin cos = record {
+  alpha = down (v .d *ℤ cos -ℤ v .q *ℤ sin) (pos 4096);
+  beta = down (v .q *ℤ cos +ℤ v .d *ℤ sin) (pos 4096);
+}
+
+-- what the code asks of two components and of an angle's two functions
+pub record Sized (a b m n : ℤ) : Type 0 where
+  pub a-size : natAbs a ≤ 16383
+  pub b-size : natAbs b ≤ 16383
+  pub m-size : natAbs m ≤ 4096
+  pub n-size : natAbs n ≤ 4096

@@ -1,0 +1,113 @@
+-- `regulator::regulate` meets its contract. The readings go as the code does: u, out, out − u, what is rounded, and x'.
+-- Assumes nothing.
+use borrow.Author.Needs.{needs}
+use mathlib.Core.Path.{_∙_, ap, ap₂}
+use lib.IntN.{ℤ, negℤ, _+ℤ_, _-ℤ_, _*ℤ_}
+use mir.Syntax.{w32, w64}
+use Rattle.fixed.specs.Fixed.{down, held}
+use Rattle.fixed.proofs.Equal.{ap₃}
+use Rattle.fixed.proofs.HeldLaws.{held-abs}
+use Rattle.fixed.proofs.Reading.{Reads, sized, local, result, plus, minus, times, multiplied, lowered, stored, fits, m32, m64}
+use Rattle.regulator.specs.Regulator.{sumOf, outOf, nextOf, regulated}
+use Rattle.regulator.proofs.regulate.Statement.{statement}
+use Rattle.regulator.proofs.regulate.Tie as tie
+
+-- u, out and x' of the definition, at the parameters
+abbrev sum-at : tie.Start → ℤ
+sum-at s = sumOf (s .args .x) (s .args .e) (s .args .g)
+
+abbrev out-at : tie.Start → ℤ
+out-at s = outOf (s .args .x) (s .args .e) (s .args .g) (s .args .limit)
+
+abbrev next-at : tie.Start → ℤ
+next-at s = nextOf (s .args .x) (s .args .e) (s .args .g) (s .args .limit)
+
+x-reads : (s : tie.Start) → Reads (m64 (m32 (s .args .x))) (s .args .x) 8191
+x-reads s = stored w64 (sized (s .fits .x) (s .pre .x-size)) tt
+
+u-reads : (c : tie.After-scaled) → Reads (m64 (m32 (c .before .before .args .x)) +ℤ m64 (c .scaled .result)) (sum-at (c .before .before)) 270320
+unfolding sumOf
+u-reads c =
+    let s = c .before .before in
+    plus (x-reads s) (stored w64 (lowered 4096 tt (c .scaled .ensures) (times (sized (s .fits .e) (s .pre .e-size)) (local w32 {x = s .args .g .kp} (s .pre .kp-size) tt))) tt)
+
+out-reads : (c : tie.After-hold-to) → Reads (c .hold-to .result) (out-at (c .before .before .before)) 8191
+unfolding outOf
+out-reads c =
+    let s = c .before .before .before in
+    let l = sized (s .fits .limit) (s .pre .limit-size) in
+    result (c .hold-to .ensures ∙ ap₃ held (stored w64 (u-reads (c .before)) tt .is) (ap negℤ (l .is)) (l .is)) (held-abs _ (s .args .limit) 8191 (s .pre .limit-size) (s .pre .limits))
+
+-- the code's out − u
+abbrev over : tie.After-hold-to → ℤ
+over c = m64 (m32 (c .hold-to .result)) -ℤ m64 (m64 (m32 (c .before .before .before .args .x)) +ℤ m64 (c .before .scaled .result))
+
+over-reads : (c : tie.After-hold-to) → Reads (over c) (out-at (c .before .before .before) -ℤ sum-at (c .before .before .before)) 278511
+over-reads c = minus (stored w64 (stored w32 (out-reads c) tt) tt) (stored w64 (u-reads (c .before)) tt)
+
+-- the place from which the rest goes: all three gains are read
+abbrev start : tie.After-struct-told3 → tie.Start
+start c = c .before .before .before .before .before .before .before
+
+taken-reads : (c : tie.After-struct-told3) → Reads (m64 (over (c .before .before .before .before)) *ℤ m64 (m32 (start c .args .g .kcor))) ((out-at (start c) -ℤ sum-at (start c)) *ℤ start c .args .g .kcor) 1140781056
+taken-reads c = times (stored w64 (over-reads (c .before .before .before .before)) tt) (stored w64 (local w32 (start c .pre .kcor-size) tt) tt)
+
+-- what is rounded for x'
+sum-reads : (c : tie.After-struct-told3) → Reads (m64 (c .before .before .times .result) +ℤ m64 (m64 (over (c .before .before .before .before)) *ℤ m64 (m32 (start c .args .g .kcor)))) (start c .args .e *ℤ start c .args .g .ki +ℤ (out-at (start c) -ℤ sum-at (start c)) *ℤ start c .args .g .kcor) 2214457345
+sum-reads c =
+    let s = start c in
+    plus (stored w64 (multiplied (c .before .before .times .ensures) (sized (s .fits .e) (s .pre .e-size)) (local w32 {x = s .args .g .ki} (s .pre .ki-size) tt)) tt) (stored w64 (taken-reads c) tt)
+
+next-reads : (c : tie.After-down) → Reads (m64 (m32 (start (c .before) .args .x)) +ℤ m64 (c .down .result)) (next-at (start (c .before))) 548831
+unfolding nextOf
+next-reads c =
+    plus (x-reads (start (c .before))) (stored w64 (lowered 4096 tt (c .down .ensures) (stored w64 (sum-reads (c .before)) tt)) tt)
+
+cast-at : tie.Need-cast-at
+cast-at c = fits (sized (c .fits .x) (c .pre .x-size)) tt
+
+scaled-requires : tie.Need-scaled-requires
+scaled-requires c κs = search needs
+
+add-u : tie.Need-add-u
+add-u c = fits (u-reads c) tt
+
+hold-to-requires : tie.Need-hold-to-requires
+hold-to-requires c κs = let s = c .before .before in rw (sized (s .fits .limit) (s .pre .limit-size) .is) (s .pre .limits)
+
+cast-over : tie.Need-cast-over
+cast-over c = fits (stored w32 (out-reads c) tt) tt
+
+sub-over : tie.Need-sub-over
+sub-over c = fits (over-reads c) tt
+
+times-requires : tie.Need-times-requires
+times-requires c κs = search needs
+
+cast-down : tie.Need-cast-down
+cast-down c = fits (local w32 {x = start c .args .g .kcor} (start c .pre .kcor-size) tt) tt
+
+mul-down : tie.Need-mul-down
+mul-down c = fits (taken-reads c) tt
+
+add-down : tie.Need-add-down
+add-down c = fits (sum-reads c) tt
+
+down-requires : tie.Need-down-requires
+down-requires c κs = search needs
+
+add-t10 : tie.Need-add-t10
+add-t10 c = fits (next-reads c) tt
+
+cast-t14 : tie.Need-cast-t14
+cast-t14 c = fits (stored w64 (next-reads c) tt) tt
+
+returns : tie.Need-returns
+unfolding regulated
+returns c =
+    ap₂ (λ (o n : ℤ). record { out = o; x = n }) (stored w32 (out-reads (c .before .before .before .before .before)) tt .is) (stored w32 (stored w64 (next-reads c) tt) tt .is)
+
+pub regulate-spec : {M : Type 1} → statement M
+regulate-spec =
+    tie.close
+    (tie.spec cast-at scaled-requires add-u hold-to-requires cast-over sub-over times-requires cast-down mul-down add-down down-requires add-t10 cast-t14 returns)
