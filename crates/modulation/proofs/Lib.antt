@@ -1,0 +1,5 @@
+pub mod Sectors
+pub mod Clipping
+pub mod Compares
+pub mod Cases
+pub mod Sizes

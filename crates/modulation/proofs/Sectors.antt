@@ -1,0 +1,127 @@
+-- What the sectors have in common, shown once for the whole table, whichever row a voltage picks: `serves`. Neither entry of the row is
+-- negative, and its places set the phases a, b and c on levels that differ by −Z, X and Y. The theorems on compares know no more of
+-- the table than this. With it: N is never 7, and 0 for the zero vector alone.
+-- Assumes nothing.
+use mathlib.Core.Path.{_≡_}
+use mathlib.Core.Bool.{Bool, true, false, not, cond}
+use Prim.Native.Nat.{ℕ, zero, suc, _+_, _≤_}
+use native.Mathlib.Omega.{arith}
+use lib.Dec.{T}
+use lib.IntN.{ℤ, pos, negℤ, _+ℤ_, _-ℤ_, _*ℤ_}
+use lib.Signed.{_≤ℤ_, _<ℤ_, ltZ, ltZ-yes, ltZ-no}
+use Rattle.fixed.proofs.Parts.{P, N, order, parts-+, parts--, parts-*, P-neg, N-neg}
+use Rattle.modulation.specs.declared.Entries.{Entries}
+use Rattle.modulation.specs.declared.Row.{Row}
+use Rattle.modulation.specs.Modulation.{A, B, entriesOf, bit, numberOf, rowAt, rowOf}
+
+-- ════ what is shown of a row
+-- the level of a phase that goes on at place k: by how much it is asked to be on for longer than the third, in T/2^24
+abbrev pub level : ℕ → Row → ℤ
+level zero r = r .t1 +ℤ r .t2
+level (suc zero) r = r .t2
+level (suc (suc k)) r = pos 0
+
+pub record Serves (e : Entries) (r : Row) : Type 0 where
+  pub one : pos 0 ≤ℤ r .t1
+  pub two : pos 0 ≤ℤ r .t2
+  pub a-b : level (r .a) r -ℤ level (r .b) r ≡ negℤ (e .z)
+  pub b-c : level (r .b) r -ℤ level (r .c) r ≡ e .x
+  pub a-c : level (r .a) r -ℤ level (r .c) r ≡ e .y
+
+-- and of the number that picks it
+record At (e : Entries) (n : ℕ) : Type 0 where
+  pub serves : Serves e (rowAt n e)
+  pub most : n ≤ 6
+  pub none : n ≡ 0 → (e .x ≡ pos 0) × (e .y ≡ pos 0)
+
+-- ════ in parts, for `omega`
+abbrev Neg : ℤ → Type 0
+Neg u = (P (negℤ u) ≡ N u) × (N (negℤ u) ≡ P u)
+
+neg : (u : ℤ) → Neg u
+neg u = (P-neg u, N-neg u)
+
+abbrev Sum : ℤ → ℤ → Type 0
+Sum u v = P (u +ℤ v) + N u + N v ≡ N (u +ℤ v) + P u + P v
+
+gap : (u v w : ℤ) → P u + N v + N w ≡ N u + P v + P w → u -ℤ v ≡ w
+gap u v w h = omega (arith, order, parts-- u v)
+
+-- X is Y + Z, the opposites of the three, and the sum of the two entries of each row
+record Known (x y z : ℤ) : Type 0 where
+  pub all : P x + N y + N z ≡ N x + P y + P z
+  pub neg-x : Neg x
+  pub neg-y : Neg y
+  pub neg-z : Neg z
+  pub row1 : Sum z y
+  pub row2 : Sum y (negℤ x)
+  pub row3 : Sum (negℤ z) x
+  pub row4 : Sum (negℤ x) z
+  pub row5 : Sum x (negℤ y)
+  pub row6 : Sum (negℤ y) (negℤ z)
+
+known : (x y z : ℤ) → x ≡ y +ℤ z → Known x y z
+known x y z e =
+    record {
+      all = omega (arith, order, parts-+ y z);
+      neg-x = neg x;
+      neg-y = neg y;
+      neg-z = neg z;
+      row1 = parts-+ z y;
+      row2 = parts-+ y (negℤ x);
+      row3 = parts-+ (negℤ z) x;
+      row4 = parts-+ (negℤ x) z;
+      row5 = parts-+ x (negℤ y);
+      row6 = parts-+ (negℤ y) (negℤ z);
+    }
+
+-- ════ the three tests of N
+abbrev Side : Bool → ℤ → Type 0
+Side true v = pos 0 <ℤ v
+Side false v = v ≤ℤ pos 0
+
+side : (v : ℤ) → Side (ltZ (pos 0) v) v
+side v = by (ltZ (pos 0) v) (λ t. ltZ-yes t) (λ t. ltZ-no t)
+  where
+    by : (t : Bool) → (T t → pos 0 <ℤ v) → (T (not t) → v ≤ℤ pos 0) → Side t v
+    by true f g = f tt
+    by false f g = g tt
+
+-- the row that three outcomes pick; that all three hold cannot be, since X is Y + Z
+at : (e : Entries) → Known (e .x) (e .y) (e .z)
+    → (i j k : Bool) → Side i (e .x) → Side j (negℤ (e .z)) → Side k (negℤ (e .y)) → At e (cond i 1 0 + cond j 2 0 + cond k 4 0)
+unfolding rowAt
+at e q false false false hx hz hy = omega (arith, gap, order)
+at e q true false false hx hz hy = omega (arith, gap, order)
+at e q false true false hx hz hy = omega (arith, gap, order)
+at e q true true false hx hz hy = omega (arith, gap, order)
+at e q false false true hx hz hy = omega (arith, gap, order)
+at e q true false true hx hz hy = omega (arith, gap, order)
+at e q false true true hx hz hy = omega (arith, gap, order)
+at e q true true true hx hz hy = absurd (omega (arith, order))
+
+chosen : (va vb : ℤ) → At (entriesOf va vb) (numberOf (entriesOf va vb))
+unfolding entriesOf numberOf bit
+chosen va vb =
+    let e = entriesOf va vb in
+    at e (known (e .x) (e .y) (e .z) (sum (A va) (B vb))) (ltZ (pos 0) (e .x)) (ltZ (pos 0) (negℤ (e .z))) (ltZ (pos 0) (negℤ (e .y)))
+    (side (e .x))
+    (side (negℤ (e .z)))
+    (side (negℤ (e .y)))
+  where
+    sum : (a b : ℤ) → pos 2 *ℤ b ≡ (a +ℤ b) +ℤ (b -ℤ a)
+    sum a b = omega (arith, order, parts-* (pos 2) b, parts-+ a b, parts-- b a, parts-+ (a +ℤ b) (b -ℤ a))
+
+-- ════ of every voltage
+pub serves : (va vb : ℤ) → Serves (entriesOf va vb) (rowOf (entriesOf va vb))
+unfolding rowOf
+serves va vb = chosen va vb .serves
+
+pub at-most-six : (va vb : ℤ) → numberOf (entriesOf va vb) ≤ 6
+at-most-six va vb = chosen va vb .most
+
+pub zero-vector : (va vb : ℤ) → numberOf (entriesOf va vb) ≡ 0 → (va ≡ pos 0) × (vb ≡ pos 0)
+unfolding entriesOf
+zero-vector va vb e =
+    let h = chosen va vb .none e in
+    omega (arith, order, h, parts-* (pos 2) (B vb), parts-+ (A va) (B vb), parts-* (pos 3547) va, parts-* (pos 2048) vb)

@@ -1,0 +1,133 @@
+-- Space-vector modulation, as document 01 has it under "Modulation": from a voltage (vα, vβ) and a period T to three compares.
+use Prim.Native.Nat.{ℕ, zero, suc, _+_, _≤_}
+use mathlib.Core.Bool.{Bool, true, false, cond}
+use mathlib.Core.List.{List, [], _∷_}
+use lib.IntN.{ℤ, pos, negℤ, natAbs, _+ℤ_, _-ℤ_, _*ℤ_}
+use lib.ListN.{getD}
+use lib.Signed.{_≤ℤ_, ltZ}
+use Rattle.fixed.specs.Fixed.{down}
+use Rattle.modulation.specs.declared.Entries.{Entries}
+use Rattle.modulation.specs.declared.Row.{Row}
+use Rattle.modulation.specs.declared.Times.{Times}
+use Rattle.modulation.specs.declared.Pulses.{Pulses}
+
+-- the upper end of the period T, and the largest size that an entry of the table can have: |A + B| for |vα|, |vβ| ≤ 8192
+abbrev pub longest : ℕ
+longest = 4000
+
+abbrev pub entryEnd : ℕ
+entryEnd = 45834240
+
+-- A = 3547·vα, B = 2048·vβ
+abbrev pub A : ℤ → ℤ
+A va = pos 3547 *ℤ va
+
+abbrev pub B : ℤ → ℤ
+B vb = pos 2048 *ℤ vb
+
+-- X = 2B, Y = A + B, Z = B − A
+unfoldable pub entriesOf : ℤ → ℤ → Entries
+entriesOf va vb = record { x = pos 2 *ℤ B vb; y = A va +ℤ B vb; z = B vb -ℤ A va }
+
+-- w where v > 0
+unfoldable pub bit : ℤ → ℕ → ℕ
+bit v w = cond (ltZ (pos 0) v) w 0
+
+-- N = (1 if X > 0) + (2 if −Z > 0) + (4 if −Y > 0)
+unfoldable pub numberOf : Entries → ℕ
+numberOf e = bit (e .x) 1 + bit (negℤ (e .z)) 2 + bit (negℤ (e .y)) 4
+
+-- a row of the table: the entries for t1 and t2, and at which place, 0 being the first, the phases a, b and c go on
+abbrev pub row : ℤ → ℤ → ℕ → ℕ → ℕ → Row
+row t1 t2 a b c = record { t1 = t1; t2 = t2; a = a; b = b; c = c }
+
+-- the order in which the phases go on, as 01's last column has it
+abbrev pub a·b·c : ℤ → ℤ → Row
+a·b·c t1 t2 = row t1 t2 0 1 2
+
+abbrev pub b·a·c : ℤ → ℤ → Row
+b·a·c t1 t2 = row t1 t2 1 0 2
+
+abbrev pub a·c·b : ℤ → ℤ → Row
+a·c·b t1 t2 = row t1 t2 0 2 1
+
+abbrev pub c·b·a : ℤ → ℤ → Row
+c·b·a t1 t2 = row t1 t2 2 1 0
+
+abbrev pub b·c·a : ℤ → ℤ → Row
+b·c·a t1 t2 = row t1 t2 2 0 1
+
+abbrev pub c·a·b : ℤ → ℤ → Row
+c·a·b t1 t2 = row t1 t2 1 2 0
+
+-- the table, rows 0 to 6
+abbrev pub sectors : ℤ → ℤ → ℤ → List Row
+sectors x y z =
+    a·b·c (pos 0) (pos 0)
+    ∷ b·a·c z y
+    ∷ a·c·b y (negℤ x)
+    ∷ a·b·c (negℤ z) x
+    ∷ c·b·a (negℤ x) z
+    ∷ b·c·a x (negℤ y)
+    ∷ c·a·b (negℤ y) (negℤ z)
+    ∷ []
+
+-- row n; past the table, row 0 (no voltage leads there)
+unfoldable pub rowAt : ℕ → Entries → Row
+rowAt n e = getD (sectors (e .x) (e .y) (e .z)) n (a·b·c (pos 0) (pos 0))
+
+unfoldable pub rowOf : Entries → Row
+rowOf e = rowAt (numberOf e) e
+
+-- each time is T·(entry)/2^24 down
+unfoldable pub timeOf : ℤ → ℤ → ℤ
+timeOf t e = down (t *ℤ e) (pos 16777216)
+
+-- the lesser of two
+unfoldable pub lesser : ℤ → ℤ → ℤ
+lesser a b = cond (ltZ b a) b a
+
+-- the clipping rule: t1 becomes the lesser of t1 and T, t2 the lesser of t2 and T − t1
+unfoldable pub cut : ℤ → ℤ → ℤ → Times
+cut t t1 t2 = record { t1 = lesser t1 t; t2 = lesser t2 (t -ℤ lesser t1 t); clipped = true }
+
+unfoldable pub pick : Bool → Times → Times → Times
+pick true a b = a
+pick false a b = b
+
+-- clipped if t1 + t2 > T
+unfoldable pub clippedTimes : ℤ → ℤ → ℤ → Times
+clippedTimes t t1 t2 = pick (ltZ t (t1 +ℤ t2)) (cut t t1 t2) (record { t1 = t1; t2 = t2; clipped = false })
+
+unfoldable pub timesOf : ℤ → Row → Times
+timesOf t r = clippedTimes t (timeOf t (r .t1)) (timeOf t (r .t2))
+
+-- first compare = (T − t1 − t2)/2 down; second = first + t1; third = second + t2
+unfoldable pub compareAt : ℕ → ℤ → ℤ → ℤ → ℤ
+compareAt zero t t1 t2 = down (t -ℤ t1 -ℤ t2) (pos 2)
+compareAt (suc zero) t t1 t2 = down (t -ℤ t1 -ℤ t2) (pos 2) +ℤ t1
+compareAt (suc (suc k)) t t1 t2 = down (t -ℤ t1 -ℤ t2) (pos 2) +ℤ t1 +ℤ t2
+
+-- each phase takes the compare of its place
+unfoldable pub placed : ℤ → Row → Times → Pulses
+placed t r h =
+    record { a = compareAt (r .a) t (h .t1) (h .t2); b = compareAt (r .b) t (h .t1) (h .t2); c = compareAt (r .c) t (h .t1) (h .t2); clipped = h .clipped }
+
+unfoldable pub modulated : ℤ → ℤ → ℤ → Pulses
+modulated t va vb = placed t (rowOf (entriesOf va vb)) (timesOf t (rowOf (entriesOf va vb)))
+
+-- what the code asks of its numbers
+pub record Period (t : ℤ) : Type 0 where
+  pub up : pos 0 ≤ℤ t
+  pub size : natAbs t ≤ longest
+
+pub record Small (e : Entries) : Type 0 where
+  pub x : natAbs (e .x) ≤ entryEnd
+  pub y : natAbs (e .y) ≤ entryEnd
+  pub z : natAbs (e .z) ≤ entryEnd
+
+-- times that have room in the period: what clipping leaves
+pub record Room (t : ℤ) (h : Times) : Type 0 where
+  pub one : pos 0 ≤ℤ h .t1
+  pub two : pos 0 ≤ℤ h .t2
+  pub both : (h .t1 +ℤ h .t2) ≤ℤ t

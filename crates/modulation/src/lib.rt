@@ -1,0 +1,204 @@
+// Space-vector modulation: from the voltage asked to the three compares of one period.
+ghost use mathlib.Core.Path.{_≡_};
+ghost use Prim.Native.Nat.{_≤_};
+ghost use lib.IntN.{natAbs};
+ghost use Rattle.modulation.specs.Modulation.{
+  entriesOf,
+  bit as bitOf,
+  numberOf,
+  rowAt,
+  rowOf,
+  timeOf,
+  clippedTimes,
+  timesOf,
+  compareAt,
+  placed,
+  modulated,
+  longest,
+  entryEnd,
+  Period,
+  Small,
+  Room,
+};
+
+// The compares of the phases a, b and c, and whether the voltage was more than the period holds.
+pub struct Pulses {
+    pub a: i32,
+    pub b: i32,
+    pub c: i32,
+    pub clipped: bool,
+}
+
+// X, Y and Z.
+pub struct Entries {
+    pub x: i32,
+    pub y: i32,
+    pub z: i32,
+}
+
+// A row of the sector table: the entries for t1 and t2, and the place (0, 1, 2) at which each phase goes on.
+pub struct Row {
+    pub t1: i32,
+    pub t2: i32,
+    pub a: u8,
+    pub b: u8,
+    pub c: u8,
+}
+
+// The times of the two active vectors.
+pub struct Times {
+    pub t1: i32,
+    pub t2: i32,
+    pub clipped: bool,
+}
+
+fn entries_of(va: i32, vb: i32) -> Entries
+    requires { ⌜ (natAbs va ≤ 8192) × (natAbs vb ≤ 8192) ⌝ }
+    ensures { λ r. ⌜ r ≡ entriesOf va vb ⌝ }
+{
+    let a = 3547 * va;
+    let b = 2048 * vb;
+    Entries {
+        x: 2 * b,
+        y: a + b,
+        z: b - a,
+    }
+}
+
+fn bit(v: i32, w: u32) -> u32
+    ensures { λ r. ⌜ r ≡ bitOf v w ⌝ }
+{
+    if 0 < v { w } else { 0 }
+}
+
+fn number(e: Entries) -> u32
+    requires { ⌜ Small e ⌝ }
+    ensures { λ r. ⌜ r ≡ numberOf e ⌝ }
+{
+    bit(e.x, 1) + bit(-e.z, 2) + bit(-e.y, 4)
+}
+
+fn row_at(n: u32, e: Entries) -> Row
+    requires { ⌜ Small e ⌝ }
+    ensures { λ r. ⌜ r ≡ rowAt n e ⌝ }
+{
+    match n {
+        1 => Row {
+            t1: e.z,
+            t2: e.y,
+            a: 1,
+            b: 0,
+            c: 2,
+        },
+        2 => Row {
+            t1: e.y,
+            t2: -e.x,
+            a: 0,
+            b: 2,
+            c: 1,
+        },
+        3 => Row {
+            t1: -e.z,
+            t2: e.x,
+            a: 0,
+            b: 1,
+            c: 2,
+        },
+        4 => Row {
+            t1: -e.x,
+            t2: e.z,
+            a: 2,
+            b: 1,
+            c: 0,
+        },
+        5 => Row {
+            t1: e.x,
+            t2: -e.y,
+            a: 2,
+            b: 0,
+            c: 1,
+        },
+        6 => Row {
+            t1: -e.y,
+            t2: -e.z,
+            a: 1,
+            b: 2,
+            c: 0,
+        },
+        _ => Row {
+            t1: 0,
+            t2: 0,
+            a: 0,
+            b: 1,
+            c: 2,
+        },
+    }
+}
+
+fn time(t: i32, e: i32) -> i32
+    requires { ⌜ (natAbs t ≤ longest) × (natAbs e ≤ entryEnd) ⌝ }
+    ensures { λ r. ⌜ r ≡ timeOf t e ⌝ }
+{
+    fixed::scaled(t, e, 16777216) as i32
+}
+
+// The clipping rule; the period is not negative, so that what is kept of the two times has room in it.
+fn clip(t: i32, t1: i32, t2: i32) -> Times
+    requires { ⌜ Period t × (natAbs t1 ≤ 100000) × (natAbs t2 ≤ 100000) ⌝ }
+    ensures { λ r. ⌜ r ≡ clippedTimes t t1 t2 ⌝ }
+{
+    if t < t1 + t2 {
+        let first = if t < t1 { t } else { t1 };
+        let room = t - first;
+        let second = if room < t2 { room } else { t2 };
+        Times {
+            t1: first,
+            t2: second,
+            clipped: true,
+        }
+    } else {
+        Times {
+            t1: t1,
+            t2: t2,
+            clipped: false,
+        }
+    }
+}
+
+// The compare of a phase that goes on at place k.
+fn compare(k: u8, t: i32, t1: i32, t2: i32) -> i32
+    requires { ⌜ (natAbs t ≤ longest) × (natAbs t1 ≤ longest) × (natAbs t2 ≤ longest) ⌝ }
+    ensures { λ r. ⌜ r ≡ compareAt k t t1 t2 ⌝ }
+{
+    let first = fixed::down((t - t1 - t2) as i64, 2) as i32;
+    if k == 0 {
+        first
+    } else if k == 1 {
+        first + t1
+    } else {
+        first + t1 + t2
+    }
+}
+
+fn place(t: i32, r: Row, h: Times) -> Pulses
+    requires { ⌜ Period t × Room t h ⌝ }
+    ensures { λ p. ⌜ p ≡ placed t r h ⌝ }
+{
+    Pulses {
+        a: compare(r.a, t, h.t1, h.t2),
+        b: compare(r.b, t, h.t1, h.t2),
+        c: compare(r.c, t, h.t1, h.t2),
+        clipped: h.clipped,
+    }
+}
+
+// The compares of the phases a, b and c in a period t, for the voltage (va, vb).
+pub fn modulate(t: i32, va: i32, vb: i32) -> Pulses
+    requires { ⌜ Period t × (natAbs va ≤ 8192) × (natAbs vb ≤ 8192) ⌝ }
+    ensures { λ p. ⌜ p ≡ modulated t va vb ⌝ }
+{
+    let e = entries_of(va, vb);
+    let r = row_at(number(e), e);
+    let h = clip(t, time(t, r.t1), time(t, r.t2));
+    place(t, r, h)
+}
