@@ -10,6 +10,11 @@ pub starred-flux : (fluxNext (pos 75) (pos 2404) (pos 2458) ≡ pos 2404) × (fl
 unfolding fluxNext down
 starred-flux = (refl, refl)
 
+-- falling: 75·(−54)/4096 is −1 down, and towards zero it would be 0
+flux-falls : fluxNext (pos 75) (pos 2458) (pos 2404) ≡ pos 2457
+unfolding fluxNext down
+flux-falls = refl
+
 pub starred-angle : angleNext (pos 100) (pos 0) (negsuc 0) ≡ pos 65535
 unfolding angleNext modulo down
 starred-angle = refl

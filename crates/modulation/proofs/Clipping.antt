@@ -4,14 +4,14 @@
 -- From the two, of every step: its times have room (`clipped-room`), and not clipped they are the times asked for (`kept`).
 -- Assumes nothing.
 use mathlib.Core.Path.{_≡_, refl, subst, sym, _∙_}
-use mathlib.Core.Bool.{Bool, true, false, not}
+use mathlib.Core.Bool.{Bool, true, false, not, cond}
 use native.Mathlib.Omega.{arith}
 use lib.Dec.{T}
 use lib.IntN.{ℤ, pos, _+ℤ_, _-ℤ_}
 use lib.Signed.{_≤ℤ_, _<ℤ_, ltZ, ltZ-yes, ltZ-no}
 use Rattle.fixed.proofs.Parts.{cond-ind, order, parts-+, parts--}
 use Rattle.modulation.specs.declared.Times.{Times}
-use Rattle.modulation.specs.Modulation.{lesser, cut, pick, clippedTimes, Room}
+use Rattle.modulation.specs.Modulation.{lesser, cut, clippedTimes, Room}
 
 -- ════ the rule
 record Least (a b z : ℤ) : Type 0 where
@@ -42,10 +42,10 @@ cut-marked t t1 t2 = refl
 -- ════ of every step
 -- a fact of the times, by the two ways
 clipped-cases : (R : Times → Type 0) (t t1 t2 : ℤ) → R (cut t t1 t2) → ((t1 +ℤ t2) ≤ℤ t → R (record { t1 = t1; t2 = t2; clipped = false })) → R (clippedTimes t t1 t2)
-unfolding clippedTimes pick
+unfolding clippedTimes
 clipped-cases R t t1 t2 f g = by (ltZ t (t1 +ℤ t2)) (λ s. ltZ-no s)
   where
-    by : (s : Bool) → (T (not s) → (t1 +ℤ t2) ≤ℤ t) → R (pick s (cut t t1 t2) (record { t1 = t1; t2 = t2; clipped = false }))
+    by : (s : Bool) → (T (not s) → (t1 +ℤ t2) ≤ℤ t) → R (cond s (cut t t1 t2) (record { t1 = t1; t2 = t2; clipped = false }))
     by true k = f
     by false k = g (k tt)
 

@@ -1,6 +1,6 @@
 -- Space-vector modulation, as document 01 has it under "Modulation": from a voltage (vα, vβ) and a period T to three compares.
 use Prim.Native.Nat.{ℕ, zero, suc, _+_, _≤_}
-use mathlib.Core.Bool.{Bool, true, false, cond}
+use mathlib.Core.Bool.{true, false, cond}
 use mathlib.Core.List.{List, [], _∷_}
 use lib.IntN.{ℤ, pos, negℤ, natAbs, _+ℤ_, _-ℤ_, _*ℤ_}
 use lib.ListN.{getD}
@@ -91,13 +91,9 @@ lesser a b = cond (ltZ b a) b a
 unfoldable pub cut : ℤ → ℤ → ℤ → Times
 cut t t1 t2 = record { t1 = lesser t1 t; t2 = lesser t2 (t -ℤ lesser t1 t); clipped = true }
 
-unfoldable pub pick : Bool → Times → Times → Times
-pick true a b = a
-pick false a b = b
-
 -- clipped if t1 + t2 > T
 unfoldable pub clippedTimes : ℤ → ℤ → ℤ → Times
-clippedTimes t t1 t2 = pick (ltZ t (t1 +ℤ t2)) (cut t t1 t2) (record { t1 = t1; t2 = t2; clipped = false })
+clippedTimes t t1 t2 = cond (ltZ t (t1 +ℤ t2)) (cut t t1 t2) (record { t1 = t1; t2 = t2; clipped = false })
 
 unfoldable pub timesOf : ℤ → Row → Times
 timesOf t r = clippedTimes t (timeOf t (r .t1)) (timeOf t (r .t2))

@@ -6,6 +6,7 @@ ghost use Rattle.modulation.specs.Modulation.{
   entriesOf,
   bit as bitOf,
   numberOf,
+  row,
   rowAt,
   rowOf,
   timeOf,
@@ -78,60 +79,31 @@ fn number(e: Entries) -> u32
     bit(e.x, 1) + bit(-e.z, 2) + bit(-e.y, 4)
 }
 
+fn sector(t1: i32, t2: i32, a: u8, b: u8, c: u8) -> Row
+    ensures { λ r. ⌜ r ≡ row t1 t2 a b c ⌝ }
+{
+    Row {
+        t1: t1,
+        t2: t2,
+        a: a,
+        b: b,
+        c: c,
+    }
+}
+
+// The table: which entries are t1 and t2, and at which place the phases a, b and c go on.
 fn row_at(n: u32, e: Entries) -> Row
     requires { ⌜ Small e ⌝ }
     ensures { λ r. ⌜ r ≡ rowAt n e ⌝ }
 {
     match n {
-        1 => Row {
-            t1: e.z,
-            t2: e.y,
-            a: 1,
-            b: 0,
-            c: 2,
-        },
-        2 => Row {
-            t1: e.y,
-            t2: -e.x,
-            a: 0,
-            b: 2,
-            c: 1,
-        },
-        3 => Row {
-            t1: -e.z,
-            t2: e.x,
-            a: 0,
-            b: 1,
-            c: 2,
-        },
-        4 => Row {
-            t1: -e.x,
-            t2: e.z,
-            a: 2,
-            b: 1,
-            c: 0,
-        },
-        5 => Row {
-            t1: e.x,
-            t2: -e.y,
-            a: 2,
-            b: 0,
-            c: 1,
-        },
-        6 => Row {
-            t1: -e.y,
-            t2: -e.z,
-            a: 1,
-            b: 2,
-            c: 0,
-        },
-        _ => Row {
-            t1: 0,
-            t2: 0,
-            a: 0,
-            b: 1,
-            c: 2,
-        },
+        1 => sector(e.z, e.y, 1, 0, 2),
+        2 => sector(e.y, -e.x, 0, 2, 1),
+        3 => sector(-e.z, e.x, 0, 1, 2),
+        4 => sector(-e.x, e.z, 2, 1, 0),
+        5 => sector(e.x, -e.y, 2, 0, 1),
+        6 => sector(-e.y, -e.z, 1, 2, 0),
+        _ => sector(0, 0, 0, 1, 2),
     }
 }
 

@@ -27,6 +27,10 @@ next : (c : tie.After-down) → Reads (m64 (m64 (m32 (c .before .before .args .a
 unfolding angleNext modulo
 next c = minus (stored w64 (far (c .before)) tt) (stored w64 (turns c) tt)
 
+returns : tie.Need-returns
+returns c = stored w32 (stored w64 (next c) tt) tt .is
+
+-- that all of it fits
 cast-a : tie.Need-cast-a
 cast-a c = fits (sized (c .fits .angle) (c .pre .1)) tt
 
@@ -44,9 +48,6 @@ sub-result c = fits (next c) tt
 
 cast-result : tie.Need-cast-result
 cast-result c = fits (stored w64 (next c) tt) tt
-
-returns : tie.Need-returns
-returns c = stored w32 (stored w64 (next c) tt) tt .is
 
 pub angle-next-spec : {M : Type 1} → statement M
 angle-next-spec =

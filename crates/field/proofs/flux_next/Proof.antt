@@ -21,6 +21,10 @@ next : (c : tie.After-scaled) → Reads (m32 (c .before .args .flux) +ℤ m32 (m
 unfolding fluxNext
 next c = let s = c .before in plus (sized (s .fits .flux) (s .pre .1)) (stored w32 (change c) tt)
 
+returns : tie.Need-returns
+returns c = stored w32 (next c) tt .is
+
+-- that all of it fits
 sub-scaled : tie.Need-sub-scaled
 sub-scaled c = fits (gap c) tt
 
@@ -29,9 +33,6 @@ cast-change c = fits (change c) tt
 
 add-result : tie.Need-add-result
 add-result c = fits (next c) tt
-
-returns : tie.Need-returns
-returns c = stored w32 (next c) tt .is
 
 pub flux-next-spec : {M : Type 1} → statement M
 flux-next-spec = tie.close (tie.spec sub-scaled (λ c κs. search needs) cast-change add-result returns)

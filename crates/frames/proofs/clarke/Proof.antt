@@ -20,6 +20,12 @@ beta : (c : tie.After-scaled) → Reads (m64 (c .scaled .result)) (clarke (c .be
 unfolding clarke
 beta c = stored w64 (lowered 4096 tt (c .scaled .ensures) (times (stored w32 (both (c .before)) tt) (lit (pos 2365)))) tt
 
+returns : tie.Need-returns
+unfolding clarke
+returns c =
+    ap₂ (λ (a b : ℤ). record { alpha = a; beta = b }) (sized (c .before .fits .ia) (c .before .pre .0) .is) (stored w32 (beta c) tt .is)
+
+-- that all of it fits
 mul-scaled : tie.Need-mul-scaled
 mul-scaled c = fits (twice c) tt
 
@@ -28,11 +34,6 @@ add-scaled c = fits (both c) tt
 
 cast-beta : tie.Need-cast-beta
 cast-beta c = fits (beta c) tt
-
-returns : tie.Need-returns
-unfolding clarke
-returns c =
-    ap₂ (λ (a b : ℤ). record { alpha = a; beta = b }) (sized (c .before .fits .ia) (c .before .pre .0) .is) (stored w32 (beta c) tt .is)
 
 pub clarke-spec : {M : Type 1} → statement M
 clarke-spec = tie.close (tie.spec mul-scaled add-scaled (λ c κs. search needs) cast-beta returns)

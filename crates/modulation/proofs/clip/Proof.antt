@@ -11,7 +11,7 @@ use mir.Syntax.{w32}
 use mir.Val.{toZ}
 use Rattle.fixed.proofs.Reading.{Reads, m32, sized, plus, minus, named, stored, fits}
 use Rattle.modulation.specs.declared.Times.{Times}
-use Rattle.modulation.specs.Modulation.{lesser, cut, pick, clippedTimes}
+use Rattle.modulation.specs.Modulation.{lesser, cut, clippedTimes}
 use Rattle.modulation.proofs.clip.Statement.{statement}
 use Rattle.modulation.proofs.clip.Tie as tie
 
@@ -72,14 +72,14 @@ abbrev kept : tie.Start → Times
 kept s = record { t1 = s .args .t1; t2 = s .args .t2; clipped = false }
 
 clipped-by : (s : tie.Start) {t : Bool} → ltZ (m32 (s .args .t)) (m32 (m32 (s .args .t1) +ℤ m32 (s .args .t2))) ≡ t
-    → pick t (cut (s .args .t) (s .args .t1) (s .args .t2)) (kept s) ≡ clippedTimes (s .args .t) (s .args .t1) (s .args .t2)
+    → cond t (cut (s .args .t) (s .args .t1) (s .args .t2)) (kept s) ≡ clippedTimes (s .args .t) (s .args .t1) (s .args .t2)
 unfolding clippedTimes
 clipped-by s e =
-    ap (λ (t : Bool). pick t (cut (s .args .t) (s .args .t1) (s .args .t2)) (kept s)) (tested (period s) (stored w32 (plus (one s) (two s)) tt) e)
+    ap (λ (t : Bool). cond t (cut (s .args .t) (s .args .t1) (s .args .t2)) (kept s)) (tested (period s) (stored w32 (plus (one s) (two s)) tt) e)
 
 made : (c : tie.Joined2) {n : ℤ} → n ≡ secondOf (c .before .before)
     → _≡_ {A = Times} (record { t1 = toZ w32 (c .if2 .first); t2 = n; clipped = true }) (clippedTimes (c .before .before .args .t) (c .before .before .args .t1) (c .before .before .args .t2))
-unfolding pick cut
+unfolding cut
 made c e =
     ap₂ (λ (m n : ℤ). record { t1 = m; t2 = n; clipped = true }) (first c .is) e ∙ clipped-by (c .before .before) (c .before .if1 .taken)
 
@@ -90,7 +90,6 @@ returns-2 : tie.Need-returns-2
 returns-2 c = made (c .before) (two (c .before .before .before) .is ∙ second-by (c .before) (c .if3 .left))
 
 returns-3 : tie.Need-returns-3
-unfolding pick
 returns-3 c =
     let s = c .before in
     ap₂ (λ (m n : ℤ). record { t1 = m; t2 = n; clipped = false }) (one s .is) (two s .is) ∙ clipped-by s (c .if1 .left)

@@ -47,74 +47,85 @@ rest e (suc (suc (suc (suc (suc (suc (suc n))))))) h1 h2 h3 h4 h5 h6 = refl
 
 returns : tie.Need-returns
 unfolding rowAt
-returns c = let s = c .before .before in ap₂ b·a·c (z s .is) (y s .is) ∙ at s 1 (c .before .match .keys1)
+returns c = let k = c .before .before .before in let s = k .before in c .sector .ensures ∙ ap₂ b·a·c (z s .is) (y s .is) ∙ at s 1 (k .match .keys1)
 
 returns-2 : tie.Need-returns-2
 unfolding rowAt
 returns-2 c =
-    let s = c .before .before .before .before in
-    ap₂ a·c·b (y s .is) (stored w32 (less-x s) tt .is) ∙ at s 2 (c .before .before .before .match .keys2)
+    let k = c .before .before .before .before in
+    let s = k .before in
+    c .sector2 .ensures ∙ ap₂ a·c·b (y s .is) (stored w32 (less-x s) tt .is) ∙ at s 2 (k .match .keys2)
 
 returns-3 : tie.Need-returns-3
 unfolding rowAt
 returns-3 c =
-    let s = c .before .before .before .before in
-    ap₂ a·b·c (stored w32 (less-z s) tt .is) (x s .is) ∙ at s 3 (c .before .before .before .match .keys3)
+    let k = c .before .before .before .before in
+    let s = k .before in
+    c .sector3 .ensures ∙ ap₂ a·b·c (stored w32 (less-z s) tt .is) (x s .is) ∙ at s 3 (k .match .keys3)
 
 returns-4 : tie.Need-returns-4
 unfolding rowAt
 returns-4 c =
-    let s = c .before .before .before .before in
-    ap₂ c·b·a (stored w32 (less-x s) tt .is) (z s .is) ∙ at s 4 (c .before .before .before .match .keys4)
+    let k = c .before .before .before .before in
+    let s = k .before in
+    c .sector4 .ensures ∙ ap₂ c·b·a (stored w32 (less-x s) tt .is) (z s .is) ∙ at s 4 (k .match .keys4)
 
 returns-5 : tie.Need-returns-5
 unfolding rowAt
 returns-5 c =
-    let s = c .before .before .before .before in
-    ap₂ b·c·a (x s .is) (stored w32 (less-y s) tt .is) ∙ at s 5 (c .before .before .before .match .keys5)
+    let k = c .before .before .before .before in
+    let s = k .before in
+    c .sector5 .ensures ∙ ap₂ b·c·a (x s .is) (stored w32 (less-y s) tt .is) ∙ at s 5 (k .match .keys5)
 
 returns-6 : tie.Need-returns-6
 unfolding rowAt
 returns-6 c =
-    let s = c .before .before .before .before .before in
-    ap₂ c·a·b (stored w32 (less-y s) tt .is) (stored w32 (less-z s) tt .is)
-    ∙ at s 6 (c .before .before .before .before .match .keys6)
+    let k = c .before .before .before .before .before in
+    let s = k .before in
+    c .sector6 .ensures ∙ ap₂ c·a·b (stored w32 (less-y s) tt .is) (stored w32 (less-z s) tt .is) ∙ at s 6 (k .match .keys6)
 
 returns-7 : tie.Need-returns-7
 returns-7 c =
-    let s = c .before in
-    let r = c .match .rest in
-    rest (s .args .e) (s .args .n) (r .0 .0 .0 .0 .0 .1) (r .0 .0 .0 .0 .1) (r .0 .0 .0 .1) (r .0 .0 .1) (r .0 .1) (r .1)
+    let s = c .before .before in
+    let r = c .before .match .rest in
+    c .sector7 .ensures ∙ rest (s .args .e) (s .args .n) (r .0 .0 .0 .0 .0 .1) (r .0 .0 .0 .0 .1) (r .0 .0 .0 .1) (r .0 .0 .1) (r .0 .1) (r .1)
 
 -- that all of it fits
-sub-t4 : tie.Need-sub-t4
-sub-t4 c = fits (less-x (c .before .before .before)) tt
+sub-sector : tie.Need-sub-sector
+sub-sector c = fits (less-x (c .before .before .before)) tt
 
-sub-t5 : tie.Need-sub-t5
-sub-t5 c = fits (less-z (c .before .before .before)) tt
+sub-sector-2 : tie.Need-sub-sector-2
+sub-sector-2 c = fits (less-z (c .before .before .before)) tt
 
-sub-t6 : tie.Need-sub-t6
-sub-t6 c = fits (less-x (c .before .before .before)) tt
+sub-sector-3 : tie.Need-sub-sector-3
+sub-sector-3 c = fits (less-x (c .before .before .before)) tt
 
-sub-t7 : tie.Need-sub-t7
-sub-t7 c = fits (less-y (c .before .before .before)) tt
+sub-sector-4 : tie.Need-sub-sector-4
+sub-sector-4 c = fits (less-y (c .before .before .before)) tt
 
-sub-t8 : tie.Need-sub-t8
-sub-t8 c = fits (less-y (c .before .before .before)) tt
+sub-sector-5 : tie.Need-sub-sector-5
+sub-sector-5 c = fits (less-y (c .before .before .before)) tt
 
-sub-t9 : tie.Need-sub-t9
-sub-t9 c = fits (less-z (c .before .before .before .before .before)) tt
+sub-sector-6 : tie.Need-sub-sector-6
+sub-sector-6 c = fits (less-z (c .before .before .before .before .before)) tt
 
 pub row-at-spec : {M : Type 1} → statement M
 row-at-spec =
     tie.close
     (tie.spec
-    sub-t4
-    sub-t5
-    sub-t6
-    sub-t7
-    sub-t8
-    sub-t9
+    (λ c κs. tt)
+    sub-sector
+    (λ c κs. tt)
+    sub-sector-2
+    (λ c κs. tt)
+    sub-sector-3
+    (λ c κs. tt)
+    sub-sector-4
+    (λ c κs. tt)
+    sub-sector-5
+    sub-sector-6
+    (λ c κs. tt)
+    (λ c κs. tt)
     returns
     returns-2
     returns-3

@@ -63,6 +63,12 @@ unfolding nextOf
 next-reads c =
     plus (x-reads (start (c .before))) (stored w64 (lowered 4096 tt (c .down .ensures) (stored w64 (sum-reads (c .before)) tt)) tt)
 
+returns : tie.Need-returns
+unfolding regulated
+returns c =
+    ap₂ (λ (o n : ℤ). record { out = o; x = n }) (stored w32 (out-reads (c .before .before .before .before .before)) tt .is) (stored w32 (stored w64 (next-reads c) tt) tt .is)
+
+-- that all of it fits
 cast-at : tie.Need-cast-at
 cast-at c = fits (sized (c .fits .x) (c .pre .x-size)) tt
 
@@ -101,11 +107,6 @@ add-t10 c = fits (next-reads c) tt
 
 cast-t14 : tie.Need-cast-t14
 cast-t14 c = fits (stored w64 (next-reads c) tt) tt
-
-returns : tie.Need-returns
-unfolding regulated
-returns c =
-    ap₂ (λ (o n : ℤ). record { out = o; x = n }) (stored w32 (out-reads (c .before .before .before .before .before)) tt .is) (stored w32 (stored w64 (next-reads c) tt) tt .is)
 
 pub regulate-spec : {M : Type 1} → statement M
 regulate-spec =
