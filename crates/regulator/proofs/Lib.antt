@@ -1,2 +1,3 @@
 pub mod Fact
 pub mod Cases
+pub mod RegulatedTold

@@ -1,0 +1,83 @@
+-- The public calls, each an equation for every record and every number (document 01, "Numbers handed back").
+use mathlib.Core.Bool.{Bool, true, false, cond, _&&_}
+use lib.IntN.{ℤ, pos, _+ℤ_}
+use Rattle.fixed.specs.Fixed.{within}
+use Rattle.shaft.specs.declared.Shaft.{Shaft}
+use Rattle.drive.specs.declared.Command.{Command}
+use Rattle.drive.specs.declared.Drive.{Drive}
+use Rattle.drive.specs.declared.Stepped.{Stepped}
+use Rattle.drive.specs.declared.Answered.{Answered}
+use Rattle.drive.specs.Record.{inside, broken, fresh}
+use Rattle.drive.specs.Step.{advanced}
+
+-- ════ a step
+-- ia, ib and ia + ib within ±8191, count within 0..65535
+unfoldable pub sampleOk : ℤ → ℤ → ℤ → Bool
+sampleOk ia ib count =
+    inside (pos 8191) ia && inside (pos 8191) ib && inside (pos 8191) (ia +ℤ ib) && within (pos 0) (pos 65535) count
+
+-- the state, but marked tripped
+unfoldable pub tripped : Drive → Drive
+tripped d = record {
+  settings = d .settings;
+  shaft = d .shaft;
+  command = d .command;
+  field = d .field;
+  integrals = d .integrals;
+  tripped = true;
+}
+
+-- a refused step: the drive, a number, three equal compares t, not clipped, no voltage
+unfoldable pub refused : Drive → ℤ → ℤ → Stepped
+refused d number t = record {
+  drive = d;
+  number = number;
+  pulses = record { a = t; b = t; c = t; clipped = false };
+  voltage = record { alpha = pos 0; beta = pos 0 };
+}
+
+-- on a record that is not broken: 7 comes before 6; both give T, T, T
+unfoldable pub taken : Drive → ℤ → ℤ → ℤ → Stepped
+taken d ia ib count =
+    cond (d .tripped) (refused d (pos 7) (d .settings .t))
+    (cond (sampleOk ia ib count) (advanced d ia ib count)
+    (refused (tripped d) (pos 6) (d .settings .t)))
+
+-- 14 comes before every other number, and gives 0, 0, 0
+unfoldable pub stepped : Drive → ℤ → ℤ → ℤ → Stepped
+stepped d ia ib count = cond (broken d) (refused d (pos 14) (pos 0)) (taken d ia ib count)
+
+-- ════ a target
+-- an accepted target replaces the target and nothing else
+unfoldable pub aimedAt : Command → ℤ → Command
+aimedAt c wanted = record { target = wanted; reference = c .reference; torque = c .torque; flux = c .flux }
+
+unfoldable pub aimed : Drive → ℤ → Drive
+aimed d wanted = record {
+  settings = d .settings;
+  shaft = d .shaft;
+  command = aimedAt (d .command) wanted;
+  field = d .field;
+  integrals = d .integrals;
+  tripped = d .tripped;
+}
+
+-- the drive and a number
+abbrev pub with : Drive → ℤ → Answered
+with d number = record { drive = d; number = number }
+
+-- 14 before 7 before 8
+unfoldable pub targeted : Drive → ℤ → Answered
+targeted d wanted =
+    cond (broken d) (with d (pos 14))
+    (cond (d .tripped) (with d (pos 7))
+    (cond (inside (pos 8191) wanted) (with (aimed d wanted) (pos 0))
+    (with d (pos 8))))
+
+-- ════ clear
+-- 14 before 10; clear gives the fresh drive of the same settings
+unfoldable pub cleared : Drive → Answered
+cleared d =
+    cond (broken d) (with d (pos 14))
+    (cond (d .tripped) (with (fresh (d .settings)) (pos 0))
+    (with d (pos 10)))

@@ -1,0 +1,579 @@
+// The drive: its settings, its record, and the calls that people use. Every public call takes any words at all and answers with
+// document 01's number; the stages below `take` ask for a sound record, which the calls have tested.
+ghost use mathlib.Core.Path.{_≡_};
+ghost use mathlib.Core.Bool.{true};
+ghost use Prim.Native.Nat.{_≤_};
+ghost use lib.IntN.{pos, natAbs};
+ghost use Rattle.sine.specs.Sine.{sineTable};
+ghost use Rattle.shaft.specs.Shaft.{Count};
+ghost use Rattle.drive.specs.Record.{
+  periodOk,
+  gainOk,
+  gainsOk,
+  tied as isTied,
+  gainsTied,
+  limitsOk,
+  restOk,
+  refusal as refusalOf,
+  accepted,
+  fresh as freshOf,
+  made,
+  numberOf,
+  inside as isInside,
+  shaftOk,
+  commandOk,
+  fieldOk,
+  integralsOk,
+  sound as soundOf,
+};
+ghost use Rattle.drive.specs.Step.{
+  speedRegulated,
+  currentRegulated,
+  rampedBy,
+  withCommand,
+  commanded as commandedOf,
+  turned as turnedOf,
+  currents as currentsOf,
+  fieldAfter,
+  voltageFor,
+  withField,
+  pulsed as pulsedOf,
+  advanced,
+  Erring,
+  Currents,
+  Moving,
+  Turning,
+};
+ghost use Rattle.drive.specs.Calls.{
+  sampleOk,
+  tripped as trippedOf,
+  refused as refusedOf,
+  taken,
+  stepped,
+  aimed as aimedOf,
+  targeted,
+  cleared,
+};
+use field::Field;
+use frames::Rotor;
+use frames::Stator;
+use modulation::Pulses;
+use regulator::Gains;
+use regulator::Regulated;
+use shaft::Shaft;
+
+// In the order of the motor's sheet: the period, speed gains, current gains, the limits V and Q, the flux model's three, Kn, F, R.
+pub struct Settings {
+    pub t: i32,
+    pub skp: i32,
+    pub skcor: i32,
+    pub ski: i32,
+    pub ckp: i32,
+    pub ckcor: i32,
+    pub cki: i32,
+    pub v: i32,
+    pub q: i32,
+    pub kr: i32,
+    pub kt: i32,
+    pub kth: i32,
+    pub kn: i32,
+    pub f: i32,
+    pub r: i32,
+}
+
+// The target, and the three references: speed, torque, flux.
+pub struct Command {
+    pub target: i32,
+    pub reference: i32,
+    pub torque: i32,
+    pub flux: i32,
+}
+
+// The integrals of the three regulators.
+pub struct Integrals {
+    pub speed: i32,
+    pub d: i32,
+    pub q: i32,
+}
+
+// All words are 32 bits wide, so that a word out of its range can be told and refused.
+pub struct Drive {
+    pub settings: Settings,
+    pub shaft: Shaft,
+    pub command: Command,
+    pub field: Field,
+    pub integrals: Integrals,
+    pub tripped: bool,
+}
+
+// What settings answer: a drive or a number.
+pub enum Made {
+    Ready(Drive),
+    Refused(i32),
+}
+
+// What a step answers; the voltage is the one that was modulated, before clipping.
+pub struct Stepped {
+    pub drive: Drive,
+    pub number: i32,
+    pub pulses: Pulses,
+    pub voltage: Stator,
+}
+
+// What a target and a clear answer.
+pub struct Answered {
+    pub drive: Drive,
+    pub number: i32,
+}
+
+// What the current regulators ask for, and the integrals after it.
+pub struct Voltage {
+    pub asked: Rotor,
+    pub integrals: Integrals,
+}
+
+fn period_ok(s: Settings) -> bool
+    ensures { λ r. ⌜ r ≡ periodOk s ⌝ }
+{
+    fixed::within(100, 4000, s.t)
+}
+
+fn gain_ok(kp: i32, kcor: i32, ki: i32) -> bool
+    ensures { λ r. ⌜ r ≡ gainOk kp kcor ki ⌝ }
+{
+    fixed::within(1, 32767, kp) & fixed::within(0, 4096, kcor) & fixed::within(0, 32767, ki)
+}
+
+fn gains_ok(s: Settings) -> bool
+    ensures { λ r. ⌜ r ≡ gainsOk s ⌝ }
+{
+    gain_ok(s.skp, s.skcor, s.ski) & gain_ok(s.ckp, s.ckcor, s.cki)
+}
+
+// In 64 bits, so that the product fits whatever the gains are.
+fn tied(kp: i32, kcor: i32, ki: i32) -> bool
+    ensures { λ r. ⌜ r ≡ isTied kp kcor ki ⌝ }
+{
+    let asked = fixed::times(kp, kcor);
+    let has = fixed::times(4096, ki);
+    (asked <= has) & (has <= asked)
+}
+
+fn gains_tied(s: Settings) -> bool
+    ensures { λ r. ⌜ r ≡ gainsTied s ⌝ }
+{
+    tied(s.skp, s.skcor, s.ski) & tied(s.ckp, s.ckcor, s.cki)
+}
+
+fn limits_ok(s: Settings) -> bool
+    ensures { λ r. ⌜ r ≡ limitsOk s ⌝ }
+{
+    fixed::within(1, 4096, s.v) & fixed::within(1, 8191, s.q)
+}
+
+fn rest_ok(s: Settings) -> bool
+    ensures { λ r. ⌜ r ≡ restOk s ⌝ }
+{
+    fixed::within(1, 4096, s.kr)
+        & fixed::within(0, 32767, s.kt)
+        & fixed::within(0, 8191, s.kth)
+        & fixed::within(1, 4096, s.kn)
+        & fixed::within(410, 8191, s.f)
+        & fixed::within(1, 8191, s.r)
+}
+
+// The lowest number that applies to settings, or 0.
+pub fn refusal(s: Settings) -> i32
+    ensures { λ r. ⌜ r ≡ refusalOf s ⌝ }
+{
+    if !period_ok(s) {
+        return 1;
+    }
+    if !gains_ok(s) {
+        return 2;
+    }
+    if !gains_tied(s) {
+        return 3;
+    }
+    if !limits_ok(s) {
+        return 4;
+    }
+    if !rest_ok(s) {
+        return 5;
+    }
+    0
+}
+
+fn is_accepted(s: Settings) -> bool
+    ensures { λ r. ⌜ r ≡ accepted s ⌝ }
+{
+    refusal(s) <= 0
+}
+
+fn fresh(s: Settings) -> Drive
+    ensures { λ r. ⌜ r ≡ freshOf s ⌝ }
+{
+    Drive {
+        settings: s,
+        shaft: Shaft {
+            count: 0,
+            seen: false,
+            sum: 0,
+            steps: 0,
+            speed: 0,
+        },
+        command: Command {
+            target: 0,
+            reference: 0,
+            torque: 0,
+            flux: s.f,
+        },
+        field: Field { flux: 0, angle: 0 },
+        integrals: Integrals {
+            speed: 0,
+            d: 0,
+            q: 0,
+        },
+        tripped: false,
+    }
+}
+
+// A fresh drive with these settings, or the number that refuses them.
+pub fn make(s: Settings) -> Made
+    ensures { λ r. ⌜ r ≡ made s ⌝ }
+{
+    if is_accepted(s) {
+        Made::Ready(fresh(s))
+    } else {
+        Made::Refused(refusal(s))
+    }
+}
+
+pub fn number_of(m: Made) -> i32
+    ensures { λ r. ⌜ r ≡ numberOf m ⌝ }
+{
+    match m {
+        Made::Ready(_) => 0,
+        Made::Refused(n) => n,
+    }
+}
+
+// Whether x is within ±limit. The limit has 64 bits: it may be a word of a record that nobody has tested, or a multiple of one.
+fn inside(limit: i64, x: i32) -> bool
+    requires { ⌜ natAbs limit ≤ 1000000000000000 ⌝ }
+    ensures { λ r. ⌜ r ≡ isInside limit x ⌝ }
+{
+    let y = x as i64;
+    (-limit <= y) & (y <= limit)
+}
+
+fn shaft_ok(s: Shaft) -> bool
+    ensures { λ r. ⌜ r ≡ shaftOk s ⌝ }
+{
+    fixed::within(0, 65535, s.count)
+        & fixed::within(0, 29, s.steps)
+        & inside(fixed::times(32768, s.steps), s.sum)
+        & fixed::within(-16383, 16383, s.speed)
+}
+
+fn command_ok(s: Settings, c: Command) -> bool
+    ensures { λ r. ⌜ r ≡ commandOk s c ⌝ }
+{
+    fixed::within(-8191, 8191, c.target)
+        & fixed::within(-8191, 8191, c.reference)
+        & inside(s.q as i64, c.torque)
+        & fixed::within(0, s.f, c.flux)
+}
+
+fn field_ok(f: Field) -> bool
+    ensures { λ r. ⌜ r ≡ fieldOk f ⌝ }
+{
+    fixed::within(-20000, 20000, f.flux) & fixed::within(0, 65535, f.angle)
+}
+
+fn integrals_ok(s: Settings, x: Integrals) -> bool
+    ensures { λ r. ⌜ r ≡ integralsOk s x ⌝ }
+{
+    inside(s.q as i64, x.speed) & inside(s.v as i64, x.d) & inside(s.v as i64, x.q)
+}
+
+// Whether a record is one that a call may work on: number 14 is given where it is not.
+pub fn sound(d: Drive) -> bool
+    ensures { λ r. ⌜ r ≡ soundOf d ⌝ }
+{
+    is_accepted(d.settings)
+        & shaft_ok(d.shaft)
+        & command_ok(d.settings, d.command)
+        & field_ok(d.field)
+        & integrals_ok(d.settings, d.integrals)
+}
+
+// The speed regulator, for the reference that is wanted and the speed that is.
+fn speed_regulated(s: Settings, x: i32, wanted: i32, actual: i32) -> Regulated
+    requires { ⌜ (accepted s ≡ true) × Erring x wanted actual ⌝ }
+    ensures { λ r. ⌜ r ≡ speedRegulated s x wanted actual ⌝ }
+{
+    let g = Gains {
+        kp: s.skp,
+        kcor: s.skcor,
+        ki: s.ski,
+    };
+    regulator::regulate(x, wanted - actual, g, s.q)
+}
+
+// A current regulator, d or q.
+fn current_regulated(s: Settings, x: i32, wanted: i32, actual: i32) -> Regulated
+    requires { ⌜ (accepted s ≡ true) × Erring x wanted actual ⌝ }
+    ensures { λ r. ⌜ r ≡ currentRegulated s x wanted actual ⌝ }
+{
+    let g = Gains {
+        kp: s.ckp,
+        kcor: s.ckcor,
+        ki: s.cki,
+    };
+    regulator::regulate(x, wanted - actual, g, s.v)
+}
+
+// Ramp and weakening, on the speed n.
+fn ramped_by(d: Drive, n: i32) -> Command
+    requires { ⌜ (soundOf d ≡ true) × (natAbs n ≤ 16383) ⌝ }
+    ensures { λ r. ⌜ r ≡ rampedBy d n ⌝ }
+{
+    let reference = shaft::ramped_to(d.command.reference, d.command.target, d.settings.r);
+    let flux = shaft::weakened(d.settings.f, n);
+    let mut c = d.command;
+    c.reference = reference;
+    c.flux = flux;
+    c
+}
+
+fn with_command(d: Drive, s: Shaft, c: Command, u: Regulated) -> Drive
+    ensures { λ r. ⌜ r ≡ withCommand d s c u ⌝ }
+{
+    let mut command = c;
+    command.torque = u.out;
+    let mut integrals = d.integrals;
+    integrals.speed = u.x;
+    let mut n = d;
+    n.shaft = s;
+    n.command = command;
+    n.integrals = integrals;
+    n
+}
+
+// Rule 2, on a shaft whose speed has been measured.
+fn commanded(d: Drive, s: Shaft) -> Drive
+    requires { ⌜ (soundOf d ≡ true) × (natAbs (s .speed) ≤ 16383) ⌝ }
+    ensures { λ r. ⌜ r ≡ commandedOf d s ⌝ }
+{
+    let c = ramped_by(d, s.speed);
+    let u = speed_regulated(d.settings, d.integrals.speed, c.reference, s.speed);
+    with_command(d, s, c, u)
+}
+
+// Rules 1 and 2.
+fn turned(d: Drive, count: i32) -> Drive
+    requires { ⌜ (soundOf d ≡ true) × Count count ⌝ }
+    ensures { λ r. ⌜ r ≡ turnedOf d count ⌝ }
+{
+    let s = shaft::counted(d.shaft, count);
+    if shaft::thirtieth(d.shaft) {
+        commanded(d, shaft::measured(s, d.settings.kn))
+    } else {
+        let mut n = d;
+        n.shaft = s;
+        n
+    }
+}
+
+// Rules 3 and 5.
+fn currents(ia: i32, ib: i32, sin: i32, cos: i32) -> Rotor
+    requires { ⌜ Currents ia ib × Turning sin cos ⌝ }
+    ensures { λ r. ⌜ r ≡ currentsOf ia ib sin cos ⌝ }
+{
+    frames::park(frames::clarke(ia, ib), sin, cos)
+}
+
+// Rule 6.
+fn field_after(d: Drive, i: Rotor) -> Field
+    requires { ⌜ Moving d i ⌝ }
+    ensures { λ r. ⌜ r ≡ fieldAfter d i ⌝ }
+{
+    let s = d.settings;
+    field::followed(s.kr, s.kt, s.kth, d.field, i.d, i.q, d.shaft.speed)
+}
+
+// Rule 7.
+fn voltage_for(d: Drive, i: Rotor) -> Voltage
+    requires { ⌜ Moving d i ⌝ }
+    ensures { λ r. ⌜ r ≡ voltageFor d i ⌝ }
+{
+    let u = current_regulated(d.settings, d.integrals.d, d.command.flux, i.d);
+    let w = current_regulated(d.settings, d.integrals.q, d.command.torque, i.q);
+    let mut integrals = d.integrals;
+    integrals.d = u.x;
+    integrals.q = w.x;
+    Voltage {
+        asked: Rotor { d: u.out, q: w.out },
+        integrals: integrals,
+    }
+}
+
+fn with_field(d: Drive, f: Field, x: Integrals) -> Drive
+    ensures { λ r. ⌜ r ≡ withField d f x ⌝ }
+{
+    let mut n = d;
+    n.field = f;
+    n.integrals = x;
+    n
+}
+
+// Rules 6 to 9. The sine and cosine are the old angle's, for Park and for inverse Park.
+fn pulsed(d: Drive, i: Rotor, sin: i32, cos: i32) -> Stepped
+    requires { ⌜ Moving d i × Turning sin cos ⌝ }
+    ensures { λ r. ⌜ r ≡ pulsedOf d i sin cos ⌝ }
+{
+    let f = field_after(d, i);
+    let u = voltage_for(d, i);
+    let v = frames::inverse_park(u.asked, sin, cos);
+    let pulses = modulation::modulate(d.settings.t, v.alpha, v.beta);
+    Stepped {
+        drive: with_field(d, f, u.integrals),
+        number: 0,
+        pulses: pulses,
+        voltage: v,
+    }
+}
+
+// One accepted step; the table is lent, so that a run makes it once.
+fn advance(d: Drive, ia: i32, ib: i32, count: i32, table: &sine::Table) -> Stepped
+    requires { ⌜ (soundOf d ≡ true) × (sampleOk ia ib count ≡ true) × (now table ≡ sineTable) ⌝ }
+    ensures { λ r. ⌜ r ≡ advanced d ia ib count ⌝ }
+{
+    let angle = d.field.angle;
+    let sin = sine::sine_in(table, angle);
+    let cos = sine::cosine_in(table, angle);
+    let n = turned(d, count);
+    pulsed(n, currents(ia, ib, sin, cos), sin, cos)
+}
+
+// ia and ib are tested before their sum is formed.
+fn sample_ok(ia: i32, ib: i32, count: i32) -> bool
+    ensures { λ r. ⌜ r ≡ sampleOk ia ib count ⌝ }
+{
+    if fixed::within(-8191, 8191, ia) & fixed::within(-8191, 8191, ib) {
+        fixed::within(-8191, 8191, ia + ib) & fixed::within(0, 65535, count)
+    } else {
+        false
+    }
+}
+
+fn trip(d: Drive) -> Drive
+    ensures { λ r. ⌜ r ≡ trippedOf d ⌝ }
+{
+    let mut n = d;
+    n.tripped = true;
+    n
+}
+
+fn refused(d: Drive, number: i32, t: i32) -> Stepped
+    ensures { λ r. ⌜ r ≡ refusedOf d number t ⌝ }
+{
+    Stepped {
+        drive: d,
+        number: number,
+        pulses: Pulses {
+            a: t,
+            b: t,
+            c: t,
+            clipped: false,
+        },
+        voltage: Stator { alpha: 0, beta: 0 },
+    }
+}
+
+// A step on a record that has been tested: what a run does for each row.
+pub fn take(d: Drive, ia: i32, ib: i32, count: i32, table: &sine::Table) -> Stepped
+    requires { ⌜ (soundOf d ≡ true) × (now table ≡ sineTable) ⌝ }
+    ensures { λ r. ⌜ r ≡ taken d ia ib count ⌝ }
+{
+    if d.tripped {
+        return refused(d, 7, d.settings.t);
+    }
+    if sample_ok(ia, ib, count) {
+        advance(d, ia, ib, count, table)
+    } else {
+        refused(trip(d), 6, d.settings.t)
+    }
+}
+
+// One step from any record and any sample.
+pub fn step(d: Drive, ia: i32, ib: i32, count: i32) -> Stepped
+    ensures { λ r. ⌜ r ≡ stepped d ia ib count ⌝ }
+{
+    if !sound(d) {
+        return refused(d, 14, 0);
+    }
+    let table = sine::table();
+    take(d, ia, ib, count, &table)
+}
+
+fn aimed(d: Drive, wanted: i32) -> Drive
+    ensures { λ r. ⌜ r ≡ aimedOf d wanted ⌝ }
+{
+    let mut command = d.command;
+    command.target = wanted;
+    let mut n = d;
+    n.command = command;
+    n
+}
+
+// A new target for the speed reference.
+pub fn target(d: Drive, wanted: i32) -> Answered
+    ensures { λ r. ⌜ r ≡ targeted d wanted ⌝ }
+{
+    if !sound(d) {
+        return Answered {
+            drive: d,
+            number: 14,
+        };
+    }
+    if d.tripped {
+        return Answered {
+            drive: d,
+            number: 7,
+        };
+    }
+    if !fixed::within(-8191, 8191, wanted) {
+        return Answered {
+            drive: d,
+            number: 8,
+        };
+    }
+    Answered {
+        drive: aimed(d, wanted),
+        number: 0,
+    }
+}
+
+// After a trip: a fresh drive of the same settings.
+pub fn clear(d: Drive) -> Answered
+    ensures { λ r. ⌜ r ≡ cleared d ⌝ }
+{
+    if !sound(d) {
+        return Answered {
+            drive: d,
+            number: 14,
+        };
+    }
+    if d.tripped {
+        return Answered {
+            drive: fresh(d.settings),
+            number: 0,
+        };
+    }
+    Answered {
+        drive: d,
+        number: 10,
+    }
+}

@@ -1,0 +1,72 @@
+-- What the code does, byte by byte. That it reads what `Grammar` says is proved in proofs/Words.antt and proofs/Lines.antt.
+use Prim.Native.Nat.{ℕ, _+_, _-_, _*_, min}
+use mathlib.Core.Bool.{Bool, true, false, cond, not, _&&_, _||_}
+use mathlib.Core.List.{List, [], _∷_}
+use lib.Dec.{eqb, ltb}
+use lib.IntN.{ℤ}
+use lib.ListN.{length, set}
+use Rattle.fixed.specs.Fixed.{held, within}
+use Rattle.text.specs.Grammar.{isDigit, signed, least, greatest}
+use Rattle.text.specs.declared.Word.{Word}
+use Rattle.text.specs.declared.Line.{Line}
+
+-- ════ a word
+unfoldable pub wordStart : Word
+wordStart = record { minus = false; digits = false; bad = false; value = 0 }
+
+-- a digit more; a value of 214748365 or more stands for any such: ten times it fits 32 bits no more
+unfoldable pub digitNext : Word → ℕ → Word
+digitNext w b =
+    record { minus = w .minus; digits = true; bad = w .bad; value = min (w .value) 214748365 * 10 + (b - 48) }
+
+-- any other byte is good only as a minus sign, and that only in front
+unfoldable pub otherNext : Word → ℕ → Word
+otherNext w b =
+    record { minus = true; digits = w .digits; bad = w .bad || w .minus || w .digits || not (eqb b 45); value = w .value }
+
+unfoldable pub wordNext : Word → ℕ → Word
+wordNext w b = cond (isDigit b) (digitNext w b) (otherNext w b)
+
+-- the number that was read, if the word was good
+unfoldable pub wordSigned : Word → ℤ
+wordSigned w = signed (w .minus) (w .value)
+
+unfoldable pub wordOk : Word → Bool
+wordOk w = w .digits && not (w .bad) && within least greatest (wordSigned w)
+
+unfoldable pub wordValue : Word → ℤ
+wordValue w = held (wordSigned w) least greatest
+
+-- ════ a line
+unfoldable pub lineStart : Line
+lineStart = record { word = wordStart; count = 0; bad = false }
+
+-- whether the word is a number, and there is room for it among n numbers
+unfoldable pub taken : Line → ℕ → Bool
+taken l n = wordOk (l .word) && ltb (l .count) n
+
+-- the word has ended, by a space or by the line feed: its number goes to the next place, or the line is bad
+unfoldable pub lineEnd : Line → ℕ → Line
+lineEnd l n =
+    cond (taken l n)
+    (record { word = wordStart; count = l .count + 1; bad = l .bad })
+    (record { word = wordStart; count = l .count; bad = true })
+
+unfoldable pub numbersEnd : Line → List ℤ → List ℤ
+numbersEnd l ns = cond (taken l (length ns)) (set ns (l .count) (wordValue (l .word))) ns
+
+-- a space ends the word, any other byte goes to it
+unfoldable pub lineNext : Line → ℕ → ℕ → Line
+lineNext l b n = cond (eqb b 32) (lineEnd l n) (record { word = wordNext (l .word) b; count = l .count; bad = l .bad })
+
+unfoldable pub numbersNext : Line → ℕ → List ℤ → List ℤ
+numbersNext l b ns = cond (eqb b 32) (numbersEnd l ns) ns
+
+-- ════ a whole line: every byte, and then its end
+pub record Reading : Type 0 where
+  pub line : Line
+  pub numbers : List ℤ
+
+unfoldable pub lineRead : Line → List ℤ → List ℕ → Reading
+lineRead l ns [] = record { line = lineEnd l (length ns); numbers = numbersEnd l ns }
+lineRead l ns (b ∷ bs) = lineRead (lineNext l b (length ns)) (numbersNext l b ns) bs
