@@ -115,6 +115,10 @@ ramp-near : (reference target r : ℤ) → In (pos 1) (pos 8191) r → natAbs re
 ramp-near reference target (pos r) i h k = ramp-size 8191 reference target r h k
 ramp-near reference target (negsuc r) i h k = absurd (within-lo (pos 1) (pos 8191) (negsuc r) i .le)
 
+pub ramped-size : (d : Drive) (n : ℤ) → Sound d → natAbs (rampedBy d n .reference) ≤ 8191
+unfolding rampedBy
+ramped-size d n h = ramp-near (d .command .reference) (d .command .target) (d .settings .r) (h .settings .r) (size.reference-size d h) (size.target-size d h)
+
 commanded-sound : (d : Drive) (s : Shaft) → Sound d → ShaftIn s → Sound (commanded d s)
 unfolding commanded withCommand rampedBy withTorque withSpeed speedRegulated
 commanded-sound d s h i =
@@ -125,7 +129,7 @@ commanded-sound d s h i =
       shaft = i;
       command = record {
         target = h .command .target;
-        reference = within-of 8191 (rampedTo (d .command .reference) (d .command .target) (set .r)) (ramp-near (d .command .reference) (d .command .target) (set .r) (h .settings .r) (size.reference-size d h) (size.target-size d h));
+        reference = within-of 8191 (rampedBy d (s .speed) .reference) (ramped-size d (s .speed) h);
         torque = out-inside (d .integrals .speed) _ (speedGains set) (set .q) law (size.q-lo d h);
         flux = within-yes (pos 0) (set .f) (weakened (set .f) (s .speed)) (weakened-lo (set .f) (s .speed) (size.f-lo d h)) (weakened-hi (set .f) (s .speed) (size.f-lo d h));
       };

@@ -5,3 +5,6 @@ pub mod DriveTold
 pub mod Ranges
 pub mod Sizes
 pub mod Kept
+pub mod Regulating
+pub mod Asked
+pub mod CallLaws

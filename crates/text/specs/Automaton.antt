@@ -42,31 +42,48 @@ unfoldable pub lineStart : Line
 lineStart = record { word = wordStart; count = 0; bad = false }
 
 -- whether the word is a number, and there is room for it among n numbers
-unfoldable pub taken : Line → ℕ → Bool
-taken l n = wordOk (l .word) && ltb (l .count) n
+unfoldable pub takes : Line → ℕ → Bool
+takes l n = wordOk (l .word) && ltb (l .count) n
+
+abbrev pub lineMore : Line → Line
+lineMore l = record { word = wordStart; count = l .count + 1; bad = l .bad }
+
+abbrev pub lineBad : Line → Line
+lineBad l = record { word = wordStart; count = l .count; bad = true }
 
 -- the word has ended, by a space or by the line feed: its number goes to the next place, or the line is bad
 unfoldable pub lineEnd : Line → ℕ → Line
-lineEnd l n =
-    cond (taken l n)
-    (record { word = wordStart; count = l .count + 1; bad = l .bad })
-    (record { word = wordStart; count = l .count; bad = true })
+lineEnd l n = cond (takes l n) (lineMore l) (lineBad l)
 
 unfoldable pub numbersEnd : Line → List ℤ → List ℤ
-numbersEnd l ns = cond (taken l (length ns)) (set ns (l .count) (wordValue (l .word))) ns
+numbersEnd l ns = cond (takes l (length ns)) (set ns (l .count) (wordValue (l .word))) ns
 
 -- a space ends the word, any other byte goes to it
+abbrev pub lineOn : Line → ℕ → Line
+lineOn l b = record { word = wordNext (l .word) b; count = l .count; bad = l .bad }
+
 unfoldable pub lineNext : Line → ℕ → ℕ → Line
-lineNext l b n = cond (eqb b 32) (lineEnd l n) (record { word = wordNext (l .word) b; count = l .count; bad = l .bad })
+lineNext l b n = cond (eqb b 32) (lineEnd l n) (lineOn l b)
 
 unfoldable pub numbersNext : Line → ℕ → List ℤ → List ℤ
 numbersNext l b ns = cond (eqb b 32) (numbersEnd l ns) ns
 
--- ════ a whole line: every byte, and then its end
+-- ════ a line and the numbers beside it: one byte, many bytes, the end
 pub record Reading : Type 0 where
   pub line : Line
   pub numbers : List ℤ
 
-unfoldable pub lineRead : Line → List ℤ → List ℕ → Reading
-lineRead l ns [] = record { line = lineEnd l (length ns); numbers = numbersEnd l ns }
-lineRead l ns (b ∷ bs) = lineRead (lineNext l b (length ns)) (numbersNext l b ns) bs
+abbrev pub readNext : Reading → ℕ → Reading
+readNext r b =
+    record { line = lineNext (r .line) b (length (r .numbers)); numbers = numbersNext (r .line) b (r .numbers) }
+
+unfoldable pub readAll : Reading → List ℕ → Reading
+readAll r [] = r
+readAll r (b ∷ bs) = readAll (readNext r b) bs
+
+abbrev pub readEnd : Reading → Reading
+readEnd r = record { line = lineEnd (r .line) (length (r .numbers)); numbers = numbersEnd (r .line) (r .numbers) }
+
+-- a whole line, over the numbers o
+unfoldable pub lineRead : List ℤ → List ℕ → Reading
+lineRead o bs = readEnd (readAll (record { line = lineStart; numbers = o }) bs)

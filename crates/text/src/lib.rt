@@ -2,6 +2,7 @@
 ghost use mathlib.Core.Path.{_≡_};
 ghost use Prim.Native.Nat.{_+_, _≤_, _<_, min};
 ghost use mathlib.Core.List.{_∷_, []};
+ghost use lib.IntN.{natAbs};
 ghost use lib.ListN.{length};
 ghost use Rattle.text.specs.Automaton.{
   wordStart,
@@ -185,16 +186,24 @@ pub fn put_count(n: u64, out: &mut [u8], at: usize) -> usize
     put_digits(n, out, at)
 }
 
-// A number as text, for which there is room whatever it is. Its size is taken in 64 bits, where that of the least number fits.
+// A number without its sign, taken in 64 bits, where that of the least number fits.
+fn size(v: i32) -> u64
+    ensures { λ r. ⌜ r ≡ natAbs v ⌝ }
+{
+    let z = v as i64;
+    if z < 0 { (-z) as u64 } else { z as u64 }
+}
+
+// A number as text, for which there is room whatever it is.
 pub fn put(v: i32, out: &mut [u8], at: usize) -> usize
     requires { ⌜ at + 11 ≤ length (now out) ⌝ }
     ensures { λ r. ⌜ (r ≡ at + length (textOf v)) × (now (out .exit) ≡ written (now (out .entry)) at (textOf v)) ⌝ }
 {
-    let z = v as i64;
-    if z < 0 {
+    let n = size(v);
+    if v < 0 {
         let first = put_byte(45, out, at);
-        put_digits((-z) as u64, out, first)
+        put_digits(n, out, first)
     } else {
-        put_digits(z as u64, out, at)
+        put_digits(n, out, at)
     }
 }

@@ -5,35 +5,34 @@ use borrow.Author.Tests.{ltb-true}
 use mathlib.Core.Path.{_≡_, ap, sym, _∙_}
 use mathlib.Core.Bool.{Bool, true, false, _&&_}
 use Prim.Native.Nat.{_<_}
-use native.Mathlib.Omega.{arith}
 use lib.Dec.{ltb}
 use lib.ListN.{length}
-use mir.Syntax.{w32}
 use denote.Ref.{now}
 use Rattle.fixed.proofs.HeldLaws.{and-right}
-use Rattle.fixed.proofs.Reading.{answer}
-use Rattle.text.specs.Automaton.{taken, lineEnd, numbersEnd}
+use Rattle.fixed.proofs.Reading.{readOk32}
+use Rattle.text.specs.Automaton.{takes, lineEnd, numbersEnd}
 use Rattle.text.proofs.line_end.Statement.{statement}
 use Rattle.text.proofs.line_end.Tie as tie
 
 -- what the test says
-good : (c : tie.Then1) → taken (c .before .before .args .l) (length (now (c .before .before .args .numbers))) ≡ true
-unfolding taken
+good : (c : tie.Then1) → takes (c .before .before .args .l) (length (now (c .before .before .args .numbers))) ≡ true
+unfolding takes
 good c = ap (λ (t : Bool). t && ltb (c .before .before .args .l .count) (length (now (c .before .before .args .numbers)))) (sym (c .before .word-ok .ensures)) ∙ c .if1 .taken
 
-no-good : (c : tie.Else1) → taken (c .before .before .args .l) (length (now (c .before .before .args .numbers))) ≡ false
-unfolding taken
+no-good : (c : tie.Else1) → takes (c .before .before .args .l) (length (now (c .before .before .args .numbers))) ≡ false
+unfolding takes
 no-good c = ap (λ (t : Bool). t && ltb (c .before .before .args .l .count) (length (now (c .before .before .args .numbers)))) (sym (c .before .word-ok .ensures)) ∙ c .if1 .left
 
 room : (c : tie.Then1) → c .before .before .args .l .count < length (now (c .before .before .args .numbers))
-room c = ltb-true _ _ (and-right _ _ (c .if1 .taken))
+room c = ltb-true _ _ (and-right (c .before .word-ok .result) _ (c .if1 .taken))
 
 returns : tie.Need-returns
 unfolding lineEnd numbersEnd
 returns c =
     let k = c .before in
     let t = good (k .before) in
-    (simp (t, c .word-start .ensures), simp (t, answer w32 (k .word-value .ok) .is, k .word-value .ensures))
+    let e = readOk32 (k .word-value .result) (k .word-value .ok) ∙ k .word-value .ensures in
+    (simp (t, c .word-start .ensures), simp (t, e))
 
 returns-2 : tie.Need-returns-2
 unfolding lineEnd numbersEnd

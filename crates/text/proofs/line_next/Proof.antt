@@ -1,31 +1,26 @@
+-- `text::line_next` meets its contract.
+-- Assumes nothing.
 use borrow.Author.Needs.{needs}
+use borrow.Author.Tests.{eq-eqb, ne-eqb}
+use Rattle.text.specs.Automaton.{lineNext, numbersNext}
 use Rattle.text.proofs.line_next.Statement.{statement}
 use Rattle.text.proofs.line_next.Tie as tie
-use Rattle.text.proofs.line_next.Reads as reads
-use Rattle.text.proofs.line_next.Lts as lts
-use Rattle.text.proofs.line_end.Reads as line-end-reads
-use Rattle.text.proofs.word_next.Reads as word-next-reads
 
--- src/lib.rt:126:9
-line-end-requires : tie.Need-line-end-requires
-line-end-requires c κs = search needs
+returns : tie.Need-returns
+unfolding lineNext numbersNext
+returns c =
+    let k = c .before in
+    let t = eq-eqb _ 32 (k .before .before .if1 .taken) in
+    (simp (t, k .line-end .ensures .0), simp (t, k .line-end .ensures .1))
 
--- src/lib.rt:126:9
+returns-2 : tie.Need-returns-2
+unfolding lineNext numbersNext
+returns-2 c =
+    let t = ne-eqb _ 32 (c .before .if1 .left) in
+    (simp (t, c .word-next .ensures), simp t)
+
 same-length : tie.Need-same-length
 same-length c = search needs
 
--- src/lib.rt:126:9
-returns : tie.Need-returns
-returns c = ?
-
--- src/lib.rt:129:15
-word-next-requires : tie.Need-word-next-requires
-word-next-requires c κs = search needs
-
--- src/lib.rt:122:1
-returns-2 : tie.Need-returns-2
-returns-2 c = ?
-
 pub line-next-spec : {M : Type 1} → statement M
-line-next-spec =
-    tie.close (tie.spec line-end-requires same-length returns word-next-requires returns-2)
+line-next-spec = tie.close (tie.spec (λ c κs. tt) same-length returns (λ c κs. tt) returns-2)

@@ -1,33 +1,31 @@
+-- `text::places` meets its contract. The measure is what is left of the number.
+-- Assumes nothing.
+use Prim.Native.Nat.{_-_}
+use native.Mathlib.Omega.{arith}
+use Rattle.text.proofs.DecimalLaws.{Counting, counting-start, counting-more, counting-end}
 use Rattle.text.proofs.places.Statement.{statement}
 use Rattle.text.proofs.places.Tie as tie
-use Rattle.text.proofs.places.Reads as reads
-use Rattle.text.proofs.places.Lts as lts
 
 abbrev Inv-loop : tie.InvT-loop
-Inv-loop n k₀ rest₀ k rest = ?
+Inv-loop n k₀ rest₀ k rest = Counting n k rest (20 - k)
 
 abbrev μ-loop : tie.MeasureT-loop
-μ-loop n k₀ rest₀ k rest = ?
+μ-loop n k₀ rest₀ k rest = rest
 
--- src/lib.rt:141:5
 loop-holds : tie.Need-loop-holds Inv-loop μ-loop
-loop-holds c = ?
+loop-holds c = counting-start (c .args .n) (omega arith)
 
--- src/lib.rt:143:9
-add-k : tie.Need-add-k Inv-loop μ-loop
-add-k c = ?
-
--- src/lib.rt:141:5
-loop-less : tie.Need-loop-less Inv-loop μ-loop
-loop-less c = ?
-
--- src/lib.rt:141:5
 loop-again : tie.Need-loop-again Inv-loop μ-loop
-loop-again c = ?
+loop-again c = let k = c .before .loop in counting-more (20 - k .k) (k .inv) (c .loop-test .taken)
 
--- src/lib.rt:136:1
+loop-less : tie.Need-loop-less Inv-loop μ-loop
+loop-less c = omega arith
+
+add-k : tie.Need-add-k Inv-loop μ-loop
+add-k c = omega (arith, c .before .loop .inv .sum)
+
 returns : tie.Need-returns Inv-loop μ-loop
-returns c = ?
+returns c = counting-end (c .before .loop .inv) (c .loop-test .left)
 
 pub places-spec : {M : Type 1} → statement M
 places-spec = tie.close (tie.spec Inv-loop μ-loop loop-holds add-k loop-less loop-again returns)

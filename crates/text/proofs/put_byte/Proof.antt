@@ -1,24 +1,23 @@
+-- `text::put_byte` meets its contract.
+-- Assumes nothing.
 use borrow.Author.Needs.{needs}
+use mathlib.Core.Path.{refl}
+use denote.Ref.{now}
+use Rattle.text.proofs.Written.{written-one}
 use Rattle.text.proofs.put_byte.Statement.{statement}
 use Rattle.text.proofs.put_byte.Tie as tie
-use Rattle.text.proofs.put_byte.Reads as reads
-use Rattle.text.proofs.put_byte.Lts as lts
 
--- src/lib.rt:176:5
+returns : tie.Need-returns
+returns c = (refl, written-one (now (c .args .out)) (c .args .at) (c .args .b) (c .pre))
+
 slice-write-out : tie.Need-slice-write-out
 slice-write-out c = search needs
 
--- src/lib.rt:177:5
 add-result : tie.Need-add-result
 add-result c = search needs
 
--- src/lib.rt:172:1
 same-length : tie.Need-same-length
 same-length c = search needs
-
--- src/lib.rt:172:1
-returns : tie.Need-returns
-returns c = ?
 
 pub put-byte-spec : {M : Type 1} → statement M
 put-byte-spec = tie.close (tie.spec slice-write-out add-result same-length returns)

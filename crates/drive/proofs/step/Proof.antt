@@ -1,0 +1,30 @@
+-- `drive::step` meets its contract.
+-- Assumes nothing.
+use mathlib.Core.Path.{_≡_}
+use mathlib.Core.Bool.{true}
+use mir.Facts.{toZ-ofZ}
+use Rattle.drive.specs.Record.{sound, broken}
+use Rattle.drive.specs.Calls.{stepped}
+use Rattle.drive.proofs.Asked.{no, yes}
+use Rattle.drive.proofs.step.Statement.{statement}
+use Rattle.drive.proofs.step.Tie as tie
+
+returns : tie.Need-returns
+unfolding stepped broken
+returns c = simp (c .refused .ensures, no (c .before .before .sound .ensures) (c .before .if1 .taken))
+
+is-sound : (c : tie.Else1) → sound (c .before .before .args .d) ≡ true
+is-sound c = yes (c .before .sound .ensures) (c .if1 .left)
+
+returns-2 : tie.Need-returns-2
+unfolding stepped broken
+returns-2 c =
+    let e = c .before .before .before in
+    let f = e .before .before .fits in
+    simp (c .take .ensures, toZ-ofZ (f .ia), toZ-ofZ (f .ib), toZ-ofZ (f .count), is-sound e)
+
+take-requires : tie.Need-take-requires
+take-requires c κs = (is-sound (c .before .before), c .before .table .ensures)
+
+pub step-spec : {M : Type 1} → statement M
+step-spec = tie.close (tie.spec (λ c κs. tt) (λ c κs. tt) returns (λ c κs. tt) take-requires returns-2)

@@ -1,0 +1,43 @@
+-- `drive::target` meets its contract.
+-- Assumes nothing.
+use mathlib.Core.Path.{_≡_}
+use mathlib.Core.Bool.{true}
+use lib.IntN.{pos}
+use mir.Facts.{toZ-ofZ}
+use Rattle.fixed.proofs.Reading.{word}
+use Rattle.drive.specs.Record.{inside, sound, broken}
+use Rattle.drive.specs.Calls.{targeted}
+use Rattle.drive.proofs.Asked.{no, yes}
+use Rattle.drive.proofs.CallLaws.{inside-is}
+use Rattle.drive.proofs.target.Statement.{statement}
+use Rattle.drive.proofs.target.Tie as tie
+
+returns : tie.Need-returns
+unfolding targeted broken
+returns c = simp (no (c .before .sound .ensures) (c .if1 .taken))
+
+is-sound : (c : tie.Else1) → sound (c .before .before .args .d) ≡ true
+is-sound c = yes (c .before .sound .ensures) (c .if1 .left)
+
+returns-2 : tie.Need-returns-2
+unfolding targeted broken
+returns-2 c = simp (is-sound (c .before), c .if2 .taken)
+
+wanted-is : (c : tie.After-within) → c .within .result ≡ inside (pos 8191) (c .before .before .before .before .args .wanted)
+wanted-is c = inside-is 8191 (c .within .ensures) (word (c .before .before .before .before .fits .wanted))
+
+returns-3 : tie.Need-returns-3
+unfolding targeted broken
+returns-3 c =
+    let e = c .before .before in
+    simp (is-sound (e .before), e .if2 .left, no (wanted-is (c .before)) (c .if3 .taken))
+
+returns-4 : tie.Need-returns-4
+unfolding targeted broken
+returns-4 c =
+    let k = c .before .before in
+    let e = k .before in
+    simp (c .aimed .ensures, toZ-ofZ (e .before .before .before .fits .wanted), is-sound (e .before), e .if2 .left, yes (wanted-is k) (c .before .if3 .left))
+
+pub target-spec : {M : Type 1} → statement M
+target-spec = tie.close (tie.spec (λ c κs. tt) returns returns-2 (λ c κs. tt) returns-3 (λ c κs. tt) returns-4)

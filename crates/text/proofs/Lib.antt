@@ -1,0 +1,7 @@
+pub mod Choice
+pub mod DecimalLaws
+pub mod Written
+pub mod Words
+pub mod Lines
+pub mod RoundTrip
+pub mod Cases

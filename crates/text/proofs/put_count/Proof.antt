@@ -1,0 +1,19 @@
+-- `text::put_count` meets its contract: 20 places are room for any count.
+-- Assumes nothing.
+use borrow.Author.Needs.{needs}
+use native.Mathlib.Omega.{arith}
+use Rattle.text.proofs.DecimalLaws.{count-length}
+use Rattle.text.proofs.put_count.Statement.{statement}
+use Rattle.text.proofs.put_count.Tie as tie
+
+returns : tie.Need-returns
+returns c = search needs
+
+put-digits-requires : tie.Need-put-digits-requires
+put-digits-requires c κs = omega (arith, count-length (c .before .before .args .n) (omega arith))
+
+same-length : tie.Need-same-length
+same-length c = search needs
+
+pub put-count-spec : {M : Type 1} → statement M
+put-count-spec = tie.close (tie.spec put-digits-requires same-length returns)
