@@ -6,7 +6,7 @@ use Prim.Native.Nat.{_≤_}
 use native.Mathlib.Nat.{le-trans}
 use native.Mathlib.Omega.{arith}
 use lib.Dec.{leb→le}
-use lib.IntN.{ℤ, pos, negsuc, negℤ, natAbs}
+use lib.IntN.{ℤ, pos, negsuc, negℤ, natAbs, _-ℤ_}
 use lib.Signed.{_≤ℤ_, ≤ℤ-refl}
 use Rattle.fixed.proofs.Parts.{order, P-neg, N-neg}
 use Rattle.fixed.proofs.Size.{abs-hi}
@@ -22,7 +22,7 @@ use Rattle.frames.proofs.FrameLaws.{alpha-size, beta-size, d-size, q-size}
 use Rattle.field.specs.Field.{followed}
 use Rattle.field.proofs.FieldLaws as field
 use Rattle.shaft.specs.declared.Shaft.{Shaft}
-use Rattle.shaft.specs.Shaft.{counted, thirtieth, speedOf, measured, rampedTo, weakened, Count}
+use Rattle.shaft.specs.Shaft.{counted, thirtieth, measured, rampedTo, weakened, Count}
 use Rattle.shaft.proofs.Window as window
 use Rattle.shaft.proofs.Ramp.{ramp-size}
 use Rattle.shaft.proofs.Weakening.{weakened-lo, weakened-hi}
@@ -86,9 +86,13 @@ next-inside x e g limit l h k =
     within-yes (negℤ limit) limit (nextOf x e g limit) (n .0) (n .1)
 
 -- ════ rules 1 and 2
+pub measured-size : (s : Shaft) (kn : ℤ) → natAbs (measured s kn .speed) ≤ 16383
+unfolding measured
+measured-size s kn = window.speed-size (s .sum) kn
+
 measured-in : (s : Shaft) (kn : ℤ) → Count (s .count) → ShaftIn (measured s kn)
 unfolding measured
-measured-in s kn c = record { count = c; steps = refl; sum = refl; speed = within-of 16383 (speedOf (s .sum) kn) (window.speed-size (s .sum) kn) }
+measured-in s kn c = record { count = c; steps = refl; sum = refl; speed = within-of 16383 (measured s kn .speed) (measured-size s kn) }
 
 counted-count : (s : Shaft) (count : ℤ) → Count count → Count (counted s count .count)
 unfolding counted
@@ -196,6 +200,15 @@ module _ (d : Drive) (i : Rotor) (h : Sound d) (id : natAbs (i .d) ≤ 17650) (i
           q = next-inside (d .integrals .q) _ (currentGains (d .settings)) (d .settings .v) law (size.v-lo d h) (h .integrals .q);
         };
       }
+
+-- the voltage asked is within ±V
+pub asked-size : (d : Drive) (i : Rotor) → Sound d → (natAbs (voltageFor d i .asked .d) ≤ 4096) × (natAbs (voltageFor d i .asked .q) ≤ 4096)
+unfolding voltageFor voltageOf dRegulated qRegulated currentRegulated
+asked-size d i h =
+    let s = d .settings in
+    let law = current-lawful s (h .settings) in
+    let out : (x e : ℤ) → natAbs (regulated x e (currentGains s) (s .v) .out) ≤ 4096 = λ x e. size.inside-size (s .v) (regulated x e (currentGains s) (s .v) .out) 4096 (size.v-size d h) (out-inside x e (currentGains s) (s .v) law (size.v-lo d h)) in
+    (out (d .integrals .d) (d .command .flux -ℤ i .d), out (d .integrals .q) (d .command .torque -ℤ i .q))
 
 pub turning : (a : ℤ) → Turning (sineAt a) (cosineAt a)
 turning a = record { sin-size = sine-size a; cos-size = cosine-size a }

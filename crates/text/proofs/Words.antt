@@ -75,6 +75,14 @@ stands-next {v} d same =
     (less-or-not v 214748365)
 stands-next {v} {n} d (large h k) = large {v = min v 214748365 * 10 + d} {n = n * 10 + d} (omega arith) (omega arith)
 
+stands-min : {v n : ℕ} → Stands v n → Stands (min v 4294967296) n
+stands-min {v} same =
+    ⊎-elim
+    (λ h. let e : min v 4294967296 ≡ v = omega arith in rw e same)
+    (λ h. large {v = min v 4294967296} {n = v} (omega arith) (omega arith))
+    (less-or-not v 4294967296)
+stands-min {v} {n} (large h k) = large {v = min v 4294967296} {n = n} (omega arith) (omega arith)
+
 -- a value above 2147483648 fits with neither sign
 too-large : (m : Bool) (n : ℕ) → 2147483648 < n → within least greatest (signed m n) ≡ false
 too-large m n h = ⊎-elim (λ e. absurd (fits m e)) (λ e. e) (true-or-false (within least greatest (signed m n)))
@@ -96,11 +104,15 @@ abbrev going : Bool → Bool → ℕ → Word
 going m t v = record { minus = m; digits = t; bad = false; value = v }
 
 -- what the automaton answers of it
-answers : (m : Bool) {v n : ℕ} → Stands v n → wordNumber (going m true v) ≡ fitting m (some n)
-unfolding wordNumber wordOk wordValue wordSigned fitting
-answers m {v} same = held-some (signed m v)
-answers m {v} {n} (large h k) =
+held-fits : (m : Bool) {v n : ℕ} → Stands v n → cond (within least greatest (signed m v)) (some (held (signed m v) least greatest)) none ≡ fitting m (some n)
+unfolding fitting
+held-fits m {v} same = held-some (signed m v)
+held-fits m {v} {n} (large h k) =
     cond-false (some (held (signed m v) least greatest)) none (too-large m v h) ∙ sym (cond-false (some (signed m n)) none (too-large m n k))
+
+answers : (m : Bool) {v n : ℕ} → Stands v n → wordNumber (going m true v) ≡ fitting m (some n)
+unfolding wordNumber wordOk wordValue wordSigned
+answers m s = held-fits m (stands-min s)
 
 -- a digit more; anything else is too much, once there was a sign or a digit
 digit-next : (m t : Bool) (v b : ℕ) → isDigit b ≡ true → wordNext (going m t v) b ≡ going m true (min v 214748365 * 10 + (b - 48))

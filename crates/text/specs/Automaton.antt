@@ -27,9 +27,9 @@ otherNext w b =
 unfoldable pub wordNext : Word → ℕ → Word
 wordNext w b = cond (isDigit b) (digitNext w b) (otherNext w b)
 
--- the number that was read, if the word was good
+-- the number that was read, if the word was good; a value of 4294967296 or more stands for any such
 unfoldable pub wordSigned : Word → ℤ
-wordSigned w = signed (w .minus) (w .value)
+wordSigned w = signed (w .minus) (min (w .value) 4294967296)
 
 unfoldable pub wordOk : Word → Bool
 wordOk w = w .digits && not (w .bad) && within least greatest (wordSigned w)

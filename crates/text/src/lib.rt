@@ -23,7 +23,7 @@ pub struct Word {
     pub minus: bool,
     pub digits: bool,
     pub bad: bool,
-    pub value: u32,
+    pub value: u64,
 }
 
 // A line that is being read: the word at hand, how many numbers came before it, whether the line is refused.
@@ -44,21 +44,21 @@ pub fn word_start() -> Word
     }
 }
 
-// The value is held where ten times it is too large in any case: it can then take any number of digits and does not wrap.
-fn capped(value: u32) -> u32
-    ensures { λ r. ⌜ r ≡ min value 214748365 ⌝ }
+fn at_most(value: u64, cap: u64) -> u64
+    ensures { λ r. ⌜ r ≡ min value cap ⌝ }
 {
-    if value < 214748365 { value } else { 214748365 }
+    if value < cap { value } else { cap }
 }
 
-// One byte more. A byte that is no digit is good only as a minus sign, and that only as the first byte.
+// One byte more. The value is held where ten times it is too large in any case, so that any number of digits may come and it does not
+// wrap. A byte that is no digit is good only as a minus sign, and that only as the first byte.
 pub fn word_next(w: Word, b: u8) -> Word
     ensures { λ r. ⌜ r ≡ wordNext w b ⌝ }
 {
     let mut n = w;
     if (48 <= b) & (b <= 57) {
         n.digits = true;
-        n.value = capped(w.value) * 10 + (b - 48) as u32;
+        n.value = at_most(w.value, 214748365) * 10 + (b - 48) as u64;
     } else {
         n.bad = w.bad | w.minus | w.digits | (b != 45);
         n.minus = true;
@@ -69,7 +69,7 @@ pub fn word_next(w: Word, b: u8) -> Word
 fn word_signed(w: Word) -> i64
     ensures { λ r. ⌜ r ≡ wordSigned w ⌝ }
 {
-    let v = w.value as i64;
+    let v = at_most(w.value, 4294967296) as i64;
     if w.minus { -v } else { v }
 }
 

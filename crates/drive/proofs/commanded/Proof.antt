@@ -29,7 +29,7 @@ returns : tie.Need-returns
 unfolding commanded
 returns c =
     let j = c .before in
-    let k = j .before .before .before in
+    let k = j .before .before .before .before in
     let s = k .before .before in
     let b = told (s .args .d) _ (s .good .0 .1 .1) in
     c .with-command .ensures

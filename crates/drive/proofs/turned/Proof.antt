@@ -1,44 +1,49 @@
-use borrow.Author.Needs.{needs}
+-- `drive::turned` meets its contract.
+-- Assumes nothing.
+use mathlib.Core.Path.{_≡_, refl, _∙_, ap, ap₂, sym, subst}
+use mathlib.Core.Bool.{true}
+use lib.IntN.{ℤ, natAbs}
+use Prim.Native.Nat.{_≤_}
+use Rattle.fixed.proofs.Reading.{word}
+use Rattle.shaft.specs.declared.Shaft.{Shaft}
+use Rattle.shaft.specs.Shaft.{counted, thirtieth, measured, Count}
+use Rattle.drive.specs.declared.Drive.{Drive}
+use Rattle.drive.specs.Step.{withShaft, commanded, turned}
+use Rattle.drive.proofs.Ranges.{sound→}
+use Rattle.drive.proofs.Sizes as size
+use Rattle.drive.proofs.Kept.{measured-size}
+use Rattle.drive.proofs.DriveTold.{told}
 use Rattle.drive.proofs.turned.Statement.{statement}
 use Rattle.drive.proofs.turned.Tie as tie
-use Rattle.drive.proofs.turned.Reads as reads
-use Rattle.drive.proofs.turned.Lts as lts
-use Rattle.drive.proofs.commanded.Reads as commanded-reads
-use Rattle.shaft.proofs.counted.Reads as counted-reads
-use Rattle.shaft.proofs.measured.Reads as measured-reads
-use Rattle.shaft.proofs.thirtieth.Reads as thirtieth-reads
 
--- src/lib.rt:379:9
-counted-requires : tie.Need-counted-requires
-counted-requires c κs = ?
+counted-is : (c : tie.After-counted) → c .counted .result ≡ counted (c .before .args .d .shaft) (c .before .args .count)
+counted-is c = c .counted .ensures ∙ ap (counted (c .before .args .d .shaft)) (word (c .before .fits .count) .is)
 
--- src/lib.rt:380:8
-thirtieth-requires : tie.Need-thirtieth-requires
-thirtieth-requires c κs = search needs
+if-thirtieth : (d : Drive) (count : ℤ) → thirtieth (d .shaft) ≡ true → turned d count ≡ commanded d (measured (counted (d .shaft) count) (d .settings .kn))
+unfolding turned
+if-thirtieth d count e = rw e refl
 
--- src/lib.rt:381:22
-measured-requires : tie.Need-measured-requires
-measured-requires c κs = search needs
-
--- src/lib.rt:381:9
-commanded-requires : tie.Need-commanded-requires
-commanded-requires c κs = ?
-
--- src/lib.rt:375:1
 returns : tie.Need-returns
-returns c = ?
+returns c =
+    let m = c .before in
+    let k = m .before .before .before in
+    let s = k .before .before in
+    let b = told (s .args .d) _ (s .good .0 .1 .1) in
+    c .commanded .ensures
+    ∙ ap (commanded (s .args .d)) (m .measured .ensures ∙ ap₂ measured (counted-is (k .before)) (b .settings .kn))
+    ∙ sym (if-thirtieth (s .args .d) (s .args .count) (sym (k .thirtieth .ensures) ∙ m .before .before .if1 .taken))
 
--- src/lib.rt:375:1
 returns-2 : tie.Need-returns-2
-returns-2 c = ?
+unfolding turned withShaft
+returns-2 c = simp (counted-is (c .before .before), sym (c .before .thirtieth .ensures) ∙ c .if1 .left)
+
+counted-requires : tie.Need-counted-requires
+counted-requires c κs =
+    (size.shaft-sized (c .args .d) (sound→ (c .args .d) (c .pre .0)), subst (λ (z : ℤ). Count z) (sym (word (c .fits .count) .is)) (c .pre .1))
+
+commanded-requires : tie.Need-commanded-requires
+commanded-requires c κs =
+    (c .before .before .before .before .before .pre .0, subst (λ (s : Shaft). natAbs (s .speed) ≤ 16383) (sym (c .measured .ensures)) (measured-size _ _))
 
 pub turned-spec : {M : Type 1} → statement M
-turned-spec =
-    tie.close
-    (tie.spec
-    counted-requires
-    thirtieth-requires
-    measured-requires
-    commanded-requires
-    returns
-    returns-2)
+turned-spec = tie.close (tie.spec counted-requires (λ c κs. tt) (λ c κs. tt) commanded-requires returns returns-2)

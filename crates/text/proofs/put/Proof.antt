@@ -48,12 +48,13 @@ returns c =
     let t = b .before .before in
     let a = t .before .before .before .args in
     let n = t .before .size .result in
-    let first : b .put-byte .result + length (countText n) ≡ a .at + length (45 ∷ countText n) = omega (arith, b .put-byte .ensures .0) in
-    (d .put-digits .ensures .0 ∙ first ∙ ap (λ (bs : List ℕ). a .at + length bs) (minus t),
-    d .put-digits .ensures .1
-    ∙ ap₂ (λ (l : List ℕ) (m : ℕ). written l m (countText n)) (b .put-byte .ensures .1) (b .put-byte .ensures .0)
-    ∙ written-then (now (a .out)) (45 ∷ []) (countText n) (a .at) (omega (arith, digits (t .before), t .before .before .before .pre))
-    ∙ ap (λ (bs : List ℕ). written (now (a .out)) (a .at) bs) (minus t))
+    let first : b .put-byte .result + length (countText n) ≡ a .at + length (45 ∷ countText n) = omega (arith, b .put-byte .ensures .0) in (
+      d .put-digits .ensures .0 ∙ first ∙ ap (λ (bs : List ℕ). a .at + length bs) (minus t),
+      d .put-digits .ensures .1
+          ∙ ap₂ (λ (l : List ℕ) (m : ℕ). written l m (countText n)) (b .put-byte .ensures .1) (b .put-byte .ensures .0)
+          ∙ written-then (now (a .out)) (45 ∷ []) (countText n) (a .at) (omega (arith, digits (t .before), t .before .before .before .pre))
+          ∙ ap (λ (bs : List ℕ). written (now (a .out)) (a .at) bs) (minus t),
+    )
 
 returns-2 : tie.Need-returns-2
 returns-2 c =

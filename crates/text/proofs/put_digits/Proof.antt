@@ -14,10 +14,11 @@ returns : tie.Need-returns
 returns c =
     let k = c .before .before .before .before in
     let s = k .before .before .args in
-    let e = k .places .ensures in
-    (ap (λ (m : ℕ). s .at + m) e,
-    c .before .before .spell .ensures
-    ∙ ap (λ (bs : List ℕ). written (now (s .out)) (s .at) bs) (ap (λ (m : ℕ). lastDigits m (s .n)) e ∙ count-is-last (s .n)))
+    let e = k .places .ensures in (
+      ap (λ (m : ℕ). s .at + m) e,
+      c .before .before .spell .ensures
+          ∙ ap (λ (bs : List ℕ). written (now (s .out)) (s .at) bs) (ap (λ (m : ℕ). lastDigits m (s .n)) e ∙ count-is-last (s .n)),
+    )
 
 spell-requires : tie.Need-spell-requires
 spell-requires c κs = search needs

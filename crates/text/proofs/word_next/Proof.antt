@@ -9,7 +9,7 @@ use Rattle.text.proofs.word_next.Tie as tie
 
 returns : tie.Need-returns
 unfolding wordNext digitNext
-returns c = simp (c .before .if1 .taken, c .capped .ensures)
+returns c = simp (c .before .if1 .taken, c .at-most .ensures)
 
 returns-2 : tie.Need-returns-2
 unfolding wordNext otherNext
