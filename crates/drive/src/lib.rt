@@ -436,7 +436,8 @@ fn pulsed(d: Drive, i: Rotor, sin: i32, cos: i32) -> Stepped
     let f = field_after(d, i);
     let u = voltage_for(d, i);
     let v = frames::inverse_park(u.asked, sin, cos);
-    let pulses = modulation::modulate(d.settings.t, v.alpha, v.beta);
+    let t = d.settings.t;
+    let pulses = modulation::modulate(t, v.alpha, v.beta);
     Stepped {
         drive: with_field(d, f, u.integrals),
         number: 0,

@@ -1,5 +1,6 @@
--- The line automaton reads the grammar: fed every byte of a line and then ended, it refuses exactly the lines that are none or have more
--- numbers than the slice has room for; else its count is that of the line's numbers, which stand at the front of the slice.
+-- The line automaton reads the grammar. Fed every byte of a line and then ended (`lineRead o bs`), it refuses what is no line (`refused`)
+-- and what has more numbers than the slice o has places (`too-many`). Of any other line (`accepted`) its count is that of the line's
+-- numbers, which stand at the front of the slice (`first-numbers`). So what is not refused is such a line (`only`).
 -- Assumes nothing.
 use mathlib.Core.Path.{_≡_, refl, ap, ap₂, sym, _∙_, subst}
 use mathlib.Core.Bool.{Bool, true, false, _&&_, true≢false}
@@ -15,11 +16,11 @@ use lib.ListN.{length, getD, take, drop, set, length-append, length-drop}
 use lib.Seq.{drop-cons, set-at, take-at}
 use Rattle.fixed.proofs.HeldLaws.{and-both}
 use Rattle.text.specs.Grammar.{cut, both, numbersOf, numberOf, lineOf}
-use Rattle.text.specs.Automaton.{wordStart, wordOk, wordValue, lineStart, takes, lineMore, lineBad, lineEnd, lineOn, numbersEnd, lineNext, numbersNext, Reading, readNext, readAll, readEnd, lineRead}
+use Rattle.text.specs.Automaton.{wordStart, wordAfter, wordOk, wordValue, lineStart, takes, lineMore, lineBad, lineEnd, lineOn, numbersEnd, lineNext, numbersNext, Reading, readNext, readAll, readEnd, lineRead}
 use Rattle.text.specs.declared.Line.{Line}
 use Rattle.text.specs.declared.Word.{Word}
 use Rattle.text.proofs.Choice.{true-or-false, less-or-not}
-use Rattle.text.proofs.Words.{cond-true, cond-false, wordAfter, word-good, word-bad, after-more, and-false}
+use Rattle.text.proofs.Words.{cond-true, cond-false, word-good, word-bad, after-more, and-false}
 
 -- what a line that is taken leaves, of the numbers zs over the numbers o
 pub record Taken (o zs : List ℤ) (r : Reading) : Type 0 where

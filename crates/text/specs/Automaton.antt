@@ -1,7 +1,8 @@
--- What the code does, byte by byte. That it reads what `Grammar` says is proved in proofs/Words.antt and proofs/Lines.antt.
+-- What the code does, byte by byte. That it reads what `Grammar` says is proved in `Words` and `Lines`, of proofs/.
 use Prim.Native.Nat.{ℕ, _+_, _-_, _*_, min}
 use mathlib.Core.Bool.{Bool, true, false, cond, not, _&&_, _||_}
 use mathlib.Core.List.{List, [], _∷_}
+use mathlib.Core.Option.{Option, none, some}
 use lib.Dec.{eqb, ltb}
 use lib.IntN.{ℤ}
 use lib.ListN.{length, set}
@@ -27,6 +28,11 @@ otherNext w b =
 unfoldable pub wordNext : Word → ℕ → Word
 wordNext w b = cond (isDigit b) (digitNext w b) (otherNext w b)
 
+-- many bytes
+unfoldable pub wordAfter : Word → List ℕ → Word
+wordAfter w [] = w
+wordAfter w (b ∷ bs) = wordAfter (wordNext w b) bs
+
 -- the number that was read, if the word was good; a value of 4294967296 or more stands for any such
 unfoldable pub wordSigned : Word → ℤ
 wordSigned w = signed (w .minus) (min (w .value) 4294967296)
@@ -36,6 +42,10 @@ wordOk w = w .digits && not (w .bad) && within least greatest (wordSigned w)
 
 unfoldable pub wordValue : Word → ℤ
 wordValue w = held (wordSigned w) least greatest
+
+-- what the word is
+unfoldable pub wordNumber : Word → Option ℤ
+wordNumber w = cond (wordOk w) (some (wordValue w)) none
 
 -- ════ a line
 unfoldable pub lineStart : Line

@@ -1,6 +1,6 @@
 // Numbers as text: lines of decimal numbers read byte by byte, so that a line may be of any length, and numbers written into a buffer.
 ghost use mathlib.Core.Path.{_≡_};
-ghost use Prim.Native.Nat.{_+_, _≤_, _<_, min};
+ghost use Prim.Native.Nat.{_+_, _≤_, min};
 ghost use mathlib.Core.List.{_∷_, []};
 ghost use lib.IntN.{natAbs};
 ghost use lib.ListN.{length};
@@ -179,11 +179,11 @@ pub fn put_byte(b: u8, out: &mut [u8], at: usize) -> usize
 }
 
 // A count as text, for which there is room whatever it is.
-pub fn put_count(n: u64, out: &mut [u8], at: usize) -> usize
+pub fn put_count(count: u64, out: &mut [u8], at: usize) -> usize
     requires { ⌜ at + 20 ≤ length (now out) ⌝ }
-    ensures { λ r. ⌜ (r ≡ at + length (countText n)) × (now (out .exit) ≡ written (now (out .entry)) at (countText n)) ⌝ }
+    ensures { λ r. ⌜ (r ≡ at + length (countText count)) × (now (out .exit) ≡ written (now (out .entry)) at (countText count)) ⌝ }
 {
-    put_digits(n, out, at)
+    put_digits(count, out, at)
 }
 
 // A number without its sign, taken in 64 bits, where that of the least number fits.

@@ -78,12 +78,14 @@ pulsed-requires c κs =
     let d = s .args .d in
     let a = d .field .angle in
     let h = samples→ (s .args .ia) (s .args .ib) (s .args .count) (s .pre .1) in
-    let z = currents-size (s .args .ia) (s .args .ib) (sineAt a) (cosineAt a) (size.samples (s .args .ia) (s .args .ib) (s .args .count) (s .pre .1)) (turning a) in
-    (rw (turned-is (c .before), currents-are c) (record {
-      is-sound = sound← (turned d (s .args .count)) (turned-sound d (s .args .count) (is-sound s) (h .3));
-      d-size = z .0;
-      q-size = z .1;
-    }), turns k)
+    let z = currents-size (s .args .ia) (s .args .ib) (sineAt a) (cosineAt a) (size.samples (s .args .ia) (s .args .ib) (s .args .count) (s .pre .1)) (turning a) in (
+      rw (turned-is (c .before), currents-are c) (record {
+        is-sound = sound← (turned d (s .args .count)) (turned-sound d (s .args .count) (is-sound s) (h .3));
+        d-size = z .0;
+        q-size = z .1;
+      }),
+      turns k,
+    )
 
 pub advance-spec : {M : Type 1} → statement M
 advance-spec =

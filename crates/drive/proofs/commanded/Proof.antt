@@ -44,12 +44,14 @@ speed-regulated-requires c κs =
     let k = c .before .before .before in
     let s = k .before .before in
     let d = s .args .d in
-    let h = sound→ d (s .pre .0) in
-    (accepted← (d .settings) (h .settings), record {
-      x-size = bound (local w32 {x = d .integrals .speed} (size.speed-integral-size d h) tt) tt;
-      wanted-size = bound (reference k) tt;
-      actual-size = bound (speed s) tt;
-    })
+    let h = sound→ d (s .pre .0) in (
+      accepted← (d .settings) (h .settings),
+      record {
+        x-size = bound (local w32 {x = d .integrals .speed} (size.speed-integral-size d h) tt) tt;
+        wanted-size = bound (reference k) tt;
+        actual-size = bound (speed s) tt;
+      },
+    )
 
 pub commanded-spec : {M : Type 1} → statement M
 commanded-spec = tie.close (tie.spec ramped-by-requires speed-regulated-requires (λ c κs. tt) returns)

@@ -56,23 +56,27 @@ current-regulated-requires : tie.Need-current-regulated-requires
 current-regulated-requires c κs =
     let s = c .before .before .before in
     let d = s .args .d in
-    let h = is-sound s in
-    (accepted← (d .settings) (h .settings), record {
-      x-size = bound (local w32 {x = d .integrals .d} (size.d-integral-size d h) tt) tt;
-      wanted-size = bound (local w32 {x = d .command .flux} (size.flux-reference-size d h) tt) tt;
-      actual-size = bound (local w32 {x = s .args .i .d} (s .pre .d-size) tt) tt;
-    })
+    let h = is-sound s in (
+      accepted← (d .settings) (h .settings),
+      record {
+        x-size = bound (local w32 {x = d .integrals .d} (size.d-integral-size d h) tt) tt;
+        wanted-size = bound (local w32 {x = d .command .flux} (size.flux-reference-size d h) tt) tt;
+        actual-size = bound (local w32 {x = s .args .i .d} (s .pre .d-size) tt) tt;
+      },
+    )
 
 current-regulated-requires-2 : tie.Need-current-regulated-requires-2
 current-regulated-requires-2 c κs =
     let s = c .before .before .before .before .before .before .before in
     let d = s .args .d in
-    let h = is-sound s in
-    (accepted← (d .settings) (h .settings), record {
-      x-size = bound (local w32 {x = d .integrals .q} (size.q-integral-size d h) tt) tt;
-      wanted-size = bound (local w32 {x = d .command .torque} (size.torque-size d h) tt) tt;
-      actual-size = bound (local w32 {x = s .args .i .q} (s .pre .q-size) tt) tt;
-    })
+    let h = is-sound s in (
+      accepted← (d .settings) (h .settings),
+      record {
+        x-size = bound (local w32 {x = d .integrals .q} (size.q-integral-size d h) tt) tt;
+        wanted-size = bound (local w32 {x = d .command .torque} (size.torque-size d h) tt) tt;
+        actual-size = bound (local w32 {x = s .args .i .q} (s .pre .q-size) tt) tt;
+      },
+    )
 
 pub voltage-for-spec : {M : Type 1} → statement M
 voltage-for-spec = tie.close (tie.spec current-regulated-requires current-regulated-requires-2 returns)

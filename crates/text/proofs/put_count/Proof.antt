@@ -10,7 +10,7 @@ returns : tie.Need-returns
 returns c = search needs
 
 put-digits-requires : tie.Need-put-digits-requires
-put-digits-requires c κs = omega (arith, count-length (c .before .before .args .n) (omega arith))
+put-digits-requires c κs = omega (arith, count-length (c .before .before .args .count) (omega arith))
 
 same-length : tie.Need-same-length
 same-length c = search needs
