@@ -7,7 +7,7 @@ use lib.IntN.{ℤ, pos, negℤ, natAbs}
 use Rattle.fixed.specs.Fixed.{within}
 use Rattle.fixed.proofs.HeldLaws.{within-abs}
 use Rattle.fixed.proofs.Reading.{Reads}
-use Rattle.drive.specs.Record.{inside}
+use Rattle.record.specs.Record.{inside}
 
 pub inside-is : (b : ℕ) {r : Bool} {u x : ℤ} {m : ℕ} → r ≡ within (negℤ (pos b)) (pos b) u → Reads u x m → r ≡ inside (pos b) x
 unfolding inside

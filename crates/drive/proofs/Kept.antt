@@ -26,12 +26,12 @@ use Rattle.shaft.specs.Shaft.{counted, thirtieth, measured, rampedTo, weakened,
 use Rattle.shaft.proofs.Window as window
 use Rattle.shaft.proofs.Ramp.{ramp-size}
 use Rattle.shaft.proofs.Weakening.{weakened-lo, weakened-hi}
-use Rattle.drive.specs.declared.Settings.{Settings}
-use Rattle.drive.specs.declared.Drive.{Drive}
-use Rattle.drive.specs.Record.{accepted, fresh}
+use Rattle.record.specs.declared.Settings.{Settings}
+use Rattle.record.specs.declared.Drive.{Drive}
+use Rattle.record.specs.Record.{accepted}
 use Rattle.drive.specs.Step.{speedGains, currentGains, speedRegulated, currentRegulated, rampedBy, withTorque, withSpeed, withShaft, withCommand, commanded, turned, currents, fieldAfter, dRegulated, qRegulated, voltageOf, voltageFor, withField, outcome, pulsed, driven, advanced, Currents, Turning}
-use Rattle.drive.specs.Calls.{sampleOk, tripped, aimedAt, aimed}
-use Rattle.drive.proofs.Ranges.{In, Inside, GainsIn, SettingsIn, ShaftIn, Sound, accepted→, samples→}
+use Rattle.drive.specs.Calls.{fresh, sampleOk, tripped, aimedAt, aimed}
+use Rattle.record.proofs.Ranges.{In, Inside, GainsIn, SettingsIn, ShaftIn, Sound, accepted→}
 use Rattle.drive.proofs.Sizes as size
 
 -- ════ a fresh drive
@@ -221,7 +221,7 @@ pub advanced-sound : (d : Drive) (ia ib count : ℤ) → Sound d → sampleOk ia
 unfolding advanced
 advanced-sound d ia ib count h e =
     let a = d .field .angle in
-    driven-sound (turned d count) ia ib (sineAt a) (cosineAt a) (turned-sound d count h (samples→ ia ib count e .3)) (size.samples ia ib count e) (turning a)
+    driven-sound (turned d count) ia ib (sineAt a) (cosineAt a) (turned-sound d count h (size.samples→ ia ib count e .3)) (size.samples ia ib count e) (turning a)
 
 -- ════ a trip and a target
 pub tripped-sound : (d : Drive) → Sound d → Sound (tripped d)

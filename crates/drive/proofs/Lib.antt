@@ -1,10 +1,4 @@
-pub mod SettingsTold
-pub mod CommandTold
-pub mod IntegralsTold
-pub mod DriveTold
-pub mod Ranges
 pub mod Sizes
 pub mod Kept
 pub mod Regulating
-pub mod Asked
 pub mod CallLaws

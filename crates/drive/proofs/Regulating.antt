@@ -10,9 +10,9 @@ use Rattle.fixed.proofs.Size.{abs--}
 use Rattle.fixed.proofs.HeldLaws.{within-lo, within-size}
 use Rattle.regulator.specs.declared.Gains.{Gains}
 use Rattle.regulator.specs.Regulator.{Sized}
-use Rattle.drive.specs.declared.Settings.{Settings}
+use Rattle.record.specs.declared.Settings.{Settings}
 use Rattle.drive.specs.Step.{speedGains, currentGains, Erring}
-use Rattle.drive.proofs.Ranges.{GainsIn, SettingsIn}
+use Rattle.record.proofs.Ranges.{GainsIn, SettingsIn}
 use Rattle.drive.proofs.Sizes.{limits-cross}
 
 pub error-size : (x wanted actual : ℤ) → Erring x wanted actual → natAbs (wanted -ℤ actual) ≤ 25841

@@ -8,16 +8,18 @@ use native.Mathlib.Omega.{arith}
 use lib.Dec.{leb→le}
 use lib.IntN.{ℤ, pos, negsuc, negℤ, natAbs, _+ℤ_, _*ℤ_}
 use lib.Signed.{_≤ℤ_}
+use Rattle.fixed.specs.Fixed.{within}
 use Rattle.fixed.proofs.Parts.{order, P-neg, N-neg}
 use Rattle.fixed.proofs.Size.{abs←, abs-parts}
 use Rattle.fixed.proofs.HeldLaws.{within-lo, within-hi, within-size, within-abs, within-of}
 use Rattle.shaft.specs.Shaft as shaft
 use Rattle.modulation.specs.Modulation.{Period}
-use Rattle.drive.specs.declared.Settings.{Settings}
-use Rattle.drive.specs.declared.Drive.{Drive}
+use Rattle.record.specs.declared.Settings.{Settings}
+use Rattle.record.specs.declared.Drive.{Drive}
+use Rattle.record.specs.Record.{inside}
 use Rattle.drive.specs.Step.{Currents}
 use Rattle.drive.specs.Calls.{sampleOk}
-use Rattle.drive.proofs.Ranges.{Inside, Sound, samples→}
+use Rattle.record.proofs.Ranges.{In, Inside, Sound, four}
 
 -- ════ within ±limit, for a limit that is itself in range
 pub inside-size : (limit x : ℤ) (m : ℕ) → natAbs limit ≤ m → Inside limit x → natAbs x ≤ m
@@ -126,6 +128,10 @@ module _ (d : Drive) (h : Sound d) where
   }
 
 -- ════ of accepted samples
+pub samples→ : (ia ib count : ℤ) → sampleOk ia ib count ≡ true → Inside (pos 8191) ia × Inside (pos 8191) ib × Inside (pos 8191) (ia +ℤ ib) × In (pos 0) (pos 65535) count
+unfolding sampleOk inside
+samples→ ia ib count e = four (inside (pos 8191) ia) (inside (pos 8191) ib) (inside (pos 8191) (ia +ℤ ib)) (within (pos 0) (pos 65535) count) e
+
 pub samples : (ia ib count : ℤ) → sampleOk ia ib count ≡ true → Currents ia ib
 samples ia ib count e =
     let h = samples→ ia ib count e in

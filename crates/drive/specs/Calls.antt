@@ -2,13 +2,37 @@
 use mathlib.Core.Bool.{Bool, true, false, cond, _&&_}
 use lib.IntN.{ℤ, pos, _+ℤ_}
 use Rattle.fixed.specs.Fixed.{within}
-use Rattle.shaft.specs.declared.Shaft.{Shaft}
-use Rattle.drive.specs.declared.Command.{Command}
-use Rattle.drive.specs.declared.Drive.{Drive}
+use Rattle.record.specs.declared.Settings.{Settings}
+use Rattle.record.specs.declared.Command.{Command}
+use Rattle.record.specs.declared.Drive.{Drive}
+use Rattle.drive.specs.declared.Made.{Made}
+use Rattle.drive.specs.declared.Made.the-variants.{Ready, Refused}
 use Rattle.drive.specs.declared.Stepped.{Stepped}
 use Rattle.drive.specs.declared.Answered.{Answered}
-use Rattle.drive.specs.Record.{inside, broken, fresh}
+use Rattle.record.specs.Record.{refusal, accepted, inside, broken}
 use Rattle.drive.specs.Step.{advanced}
+
+-- ════ settings: a fresh drive, or a number
+-- integrals, flux, angle, stored count, speed, reference, target and torque reference 0, flux reference F, an empty window, no count
+-- seen yet, not tripped
+unfoldable pub fresh : Settings → Drive
+fresh s = record {
+  settings = s;
+  shaft = record { count = pos 0; seen = false; sum = pos 0; steps = pos 0; speed = pos 0 };
+  command = record { target = pos 0; reference = pos 0; torque = pos 0; flux = s .f };
+  field = record { flux = pos 0; angle = pos 0 };
+  integrals = record { speed = pos 0; d = pos 0; q = pos 0 };
+  tripped = false;
+}
+
+-- either a drive or a number, never both
+unfoldable pub made : Settings → Made
+made s = cond (accepted s) (Ready (fresh s)) (Refused (refusal s))
+
+-- 01's number of each case
+abbrev pub numberOf : Made → ℤ
+numberOf (Ready d) = pos 0
+numberOf (Refused n) = n
 
 -- ════ a step
 -- ia, ib and ia + ib within ±8191, count within 0..65535

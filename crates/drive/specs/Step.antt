@@ -13,15 +13,15 @@ use Rattle.frames.specs.Frames.{clarke, park, inversePark}
 use Rattle.field.specs.declared.Field.{Field}
 use Rattle.field.specs.Field.{followed}
 use Rattle.shaft.specs.declared.Shaft.{Shaft}
-use Rattle.shaft.specs.Shaft.{counted, thirtieth, measured, rampedTo, weakened, Count}
+use Rattle.shaft.specs.Shaft.{counted, thirtieth, measured, rampedTo, weakened}
 use Rattle.modulation.specs.Modulation.{modulated}
-use Rattle.drive.specs.declared.Settings.{Settings}
-use Rattle.drive.specs.declared.Command.{Command}
-use Rattle.drive.specs.declared.Integrals.{Integrals}
-use Rattle.drive.specs.declared.Drive.{Drive}
+use Rattle.record.specs.declared.Settings.{Settings}
+use Rattle.record.specs.declared.Command.{Command}
+use Rattle.record.specs.declared.Integrals.{Integrals}
+use Rattle.record.specs.declared.Drive.{Drive}
 use Rattle.drive.specs.declared.Voltage.{Voltage}
 use Rattle.drive.specs.declared.Stepped.{Stepped}
-use Rattle.drive.specs.Record.{sound}
+use Rattle.record.specs.Record.{sound}
 
 -- ════ the regulators: two gain sets, speed with limits ±Q, and current, which d and q share, with limits ±V
 unfoldable pub speedGains : Settings → Gains

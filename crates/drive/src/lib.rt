@@ -1,31 +1,12 @@
-// The drive: its settings, its record, and the calls that people use. Every public call takes any words at all and answers with
-// document 01's number; the stages below `take` ask for a sound record, which the calls have tested.
+// The drive: the calls that people use, and the stages of a step. Every public call takes any words at all and answers with document
+// 01's number; the stages ask for a sound record, which the calls have tested.
 ghost use mathlib.Core.Path.{_≡_};
 ghost use mathlib.Core.Bool.{true};
 ghost use Prim.Native.Nat.{_≤_};
 ghost use lib.IntN.{pos, natAbs};
 ghost use Rattle.sine.specs.Sine.{sineTable};
 ghost use Rattle.shaft.specs.Shaft.{Count};
-ghost use Rattle.drive.specs.Record.{
-  periodOk,
-  gainOk,
-  gainsOk,
-  tied as isTied,
-  gainsTied,
-  limitsOk,
-  restOk,
-  refusal as refusalOf,
-  accepted,
-  fresh as freshOf,
-  made,
-  numberOf,
-  inside as isInside,
-  shaftOk,
-  commandOk,
-  fieldOk,
-  integralsOk,
-  sound as soundOf,
-};
+ghost use Rattle.record.specs.Record.{accepted, sound as soundOf};
 ghost use Rattle.drive.specs.Step.{
   speedRegulated,
   currentRegulated,
@@ -45,6 +26,9 @@ ghost use Rattle.drive.specs.Step.{
   Turning,
 };
 ghost use Rattle.drive.specs.Calls.{
+  fresh as freshOf,
+  made,
+  numberOf,
   sampleOk,
   tripped as trippedOf,
   refused as refusedOf,
@@ -58,53 +42,13 @@ use field::Field;
 use frames::Rotor;
 use frames::Stator;
 use modulation::Pulses;
+use record::Command;
+use record::Drive;
+use record::Integrals;
+use record::Settings;
 use regulator::Gains;
 use regulator::Regulated;
 use shaft::Shaft;
-
-// In the order of the motor's sheet: the period, speed gains, current gains, the limits V and Q, the flux model's three, Kn, F, R.
-pub struct Settings {
-    pub t: i32,
-    pub skp: i32,
-    pub skcor: i32,
-    pub ski: i32,
-    pub ckp: i32,
-    pub ckcor: i32,
-    pub cki: i32,
-    pub v: i32,
-    pub q: i32,
-    pub kr: i32,
-    pub kt: i32,
-    pub kth: i32,
-    pub kn: i32,
-    pub f: i32,
-    pub r: i32,
-}
-
-// The target, and the three references: speed, torque, flux.
-pub struct Command {
-    pub target: i32,
-    pub reference: i32,
-    pub torque: i32,
-    pub flux: i32,
-}
-
-// The integrals of the three regulators.
-pub struct Integrals {
-    pub speed: i32,
-    pub d: i32,
-    pub q: i32,
-}
-
-// All words are 32 bits wide, so that a word out of its range can be told and refused.
-pub struct Drive {
-    pub settings: Settings,
-    pub shaft: Shaft,
-    pub command: Command,
-    pub field: Field,
-    pub integrals: Integrals,
-    pub tripped: bool,
-}
 
 // What settings answer: a drive or a number.
 pub enum Made {
@@ -130,84 +74,6 @@ pub struct Answered {
 pub struct Voltage {
     pub asked: Rotor,
     pub integrals: Integrals,
-}
-
-fn period_ok(s: Settings) -> bool
-    ensures { λ r. ⌜ r ≡ periodOk s ⌝ }
-{
-    fixed::within(100, 4000, s.t)
-}
-
-fn gain_ok(kp: i32, kcor: i32, ki: i32) -> bool
-    ensures { λ r. ⌜ r ≡ gainOk kp kcor ki ⌝ }
-{
-    fixed::within(1, 32767, kp) & fixed::within(0, 4096, kcor) & fixed::within(0, 32767, ki)
-}
-
-fn gains_ok(s: Settings) -> bool
-    ensures { λ r. ⌜ r ≡ gainsOk s ⌝ }
-{
-    gain_ok(s.skp, s.skcor, s.ski) & gain_ok(s.ckp, s.ckcor, s.cki)
-}
-
-// In 64 bits, so that the product fits whatever the gains are.
-fn tied(kp: i32, kcor: i32, ki: i32) -> bool
-    ensures { λ r. ⌜ r ≡ isTied kp kcor ki ⌝ }
-{
-    let asked = fixed::times(kp, kcor);
-    let has = fixed::times(4096, ki);
-    (asked <= has) & (has <= asked)
-}
-
-fn gains_tied(s: Settings) -> bool
-    ensures { λ r. ⌜ r ≡ gainsTied s ⌝ }
-{
-    tied(s.skp, s.skcor, s.ski) & tied(s.ckp, s.ckcor, s.cki)
-}
-
-fn limits_ok(s: Settings) -> bool
-    ensures { λ r. ⌜ r ≡ limitsOk s ⌝ }
-{
-    fixed::within(1, 4096, s.v) & fixed::within(1, 8191, s.q)
-}
-
-fn rest_ok(s: Settings) -> bool
-    ensures { λ r. ⌜ r ≡ restOk s ⌝ }
-{
-    fixed::within(1, 4096, s.kr)
-        & fixed::within(0, 32767, s.kt)
-        & fixed::within(0, 8191, s.kth)
-        & fixed::within(1, 4096, s.kn)
-        & fixed::within(410, 8191, s.f)
-        & fixed::within(1, 8191, s.r)
-}
-
-// The lowest number that applies to settings, or 0.
-pub fn refusal(s: Settings) -> i32
-    ensures { λ r. ⌜ r ≡ refusalOf s ⌝ }
-{
-    if !period_ok(s) {
-        return 1;
-    }
-    if !gains_ok(s) {
-        return 2;
-    }
-    if !gains_tied(s) {
-        return 3;
-    }
-    if !limits_ok(s) {
-        return 4;
-    }
-    if !rest_ok(s) {
-        return 5;
-    }
-    0
-}
-
-fn is_accepted(s: Settings) -> bool
-    ensures { λ r. ⌜ r ≡ accepted s ⌝ }
-{
-    refusal(s) <= 0
 }
 
 fn fresh(s: Settings) -> Drive
@@ -242,10 +108,10 @@ fn fresh(s: Settings) -> Drive
 pub fn make(s: Settings) -> Made
     ensures { λ r. ⌜ r ≡ made s ⌝ }
 {
-    if is_accepted(s) {
+    if record::is_accepted(s) {
         Made::Ready(fresh(s))
     } else {
-        Made::Refused(refusal(s))
+        Made::Refused(record::refusal(s))
     }
 }
 
@@ -256,56 +122,6 @@ pub fn number_of(m: Made) -> i32
         Made::Ready(_) => 0,
         Made::Refused(n) => n,
     }
-}
-
-// Whether x is within ±limit. The limit has 64 bits: it may be a word of a record that nobody has tested, or a multiple of one.
-fn inside(limit: i64, x: i32) -> bool
-    requires { ⌜ natAbs limit ≤ 1000000000000000 ⌝ }
-    ensures { λ r. ⌜ r ≡ isInside limit x ⌝ }
-{
-    let y = x as i64;
-    (-limit <= y) & (y <= limit)
-}
-
-fn shaft_ok(s: Shaft) -> bool
-    ensures { λ r. ⌜ r ≡ shaftOk s ⌝ }
-{
-    fixed::within(0, 65535, s.count)
-        & fixed::within(0, 29, s.steps)
-        & inside(fixed::times(32768, s.steps), s.sum)
-        & fixed::within(-16383, 16383, s.speed)
-}
-
-fn command_ok(s: Settings, c: Command) -> bool
-    ensures { λ r. ⌜ r ≡ commandOk s c ⌝ }
-{
-    fixed::within(-8191, 8191, c.target)
-        & fixed::within(-8191, 8191, c.reference)
-        & inside(s.q as i64, c.torque)
-        & fixed::within(0, s.f, c.flux)
-}
-
-fn field_ok(f: Field) -> bool
-    ensures { λ r. ⌜ r ≡ fieldOk f ⌝ }
-{
-    fixed::within(-20000, 20000, f.flux) & fixed::within(0, 65535, f.angle)
-}
-
-fn integrals_ok(s: Settings, x: Integrals) -> bool
-    ensures { λ r. ⌜ r ≡ integralsOk s x ⌝ }
-{
-    inside(s.q as i64, x.speed) & inside(s.v as i64, x.d) & inside(s.v as i64, x.q)
-}
-
-// Whether a record is one that a call may work on: number 14 is given where it is not.
-pub fn sound(d: Drive) -> bool
-    ensures { λ r. ⌜ r ≡ soundOf d ⌝ }
-{
-    is_accepted(d.settings)
-        & shaft_ok(d.shaft)
-        & command_ok(d.settings, d.command)
-        & field_ok(d.field)
-        & integrals_ok(d.settings, d.integrals)
 }
 
 // The speed regulator, for the reference that is wanted and the speed that is.
@@ -512,7 +328,7 @@ pub fn take(d: Drive, ia: i32, ib: i32, count: i32, table: &sine::Table) -> Step
 pub fn step(d: Drive, ia: i32, ib: i32, count: i32) -> Stepped
     ensures { λ r. ⌜ r ≡ stepped d ia ib count ⌝ }
 {
-    if !sound(d) {
+    if !record::sound(d) {
         return refused(d, 14, 0);
     }
     let table = sine::table();
@@ -533,7 +349,7 @@ fn aimed(d: Drive, wanted: i32) -> Drive
 pub fn target(d: Drive, wanted: i32) -> Answered
     ensures { λ r. ⌜ r ≡ targeted d wanted ⌝ }
 {
-    if !sound(d) {
+    if !record::sound(d) {
         return Answered {
             drive: d,
             number: 14,
@@ -561,7 +377,7 @@ pub fn target(d: Drive, wanted: i32) -> Answered
 pub fn clear(d: Drive) -> Answered
     ensures { λ r. ⌜ r ≡ cleared d ⌝ }
 {
-    if !sound(d) {
+    if !record::sound(d) {
         return Answered {
             drive: d,
             number: 14,

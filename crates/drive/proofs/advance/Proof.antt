@@ -10,10 +10,10 @@ use Rattle.sine.specs.Sine.{sineAt, cosineAt, Angle}
 use Rattle.sine.proofs.Rule.{sine-in-is, cosine-in-is, sine-size, cosine-size}
 use Rattle.shaft.specs.Shaft.{Count}
 use Rattle.drive.specs.Step.{turned, currents, pulsed, driven, advanced, Turning}
-use Rattle.drive.proofs.Ranges.{Sound, sound→, sound←, samples→}
+use Rattle.record.proofs.Ranges.{Sound, sound→, sound←}
 use Rattle.drive.proofs.Sizes as size
 use Rattle.drive.proofs.Kept.{turned-sound, currents-size, turning}
-use Rattle.drive.proofs.DriveTold.{Back, told}
+use Rattle.record.proofs.DriveTold.{Back, told}
 use Rattle.drive.proofs.advance.Statement.{statement}
 use Rattle.drive.proofs.advance.Tie as tie
 
@@ -64,7 +64,7 @@ turns c = record { sin-size = bound (sin (c .before)) tt; cos-size = bound (cos 
 turned-requires : tie.Need-turned-requires
 turned-requires c κs =
     let s = c .before .before .before in
-    (s .pre .0, subst (λ (z : ℤ). Count z) (sym (word (s .fits .count) .is)) (samples→ (s .args .ia) (s .args .ib) (s .args .count) (s .pre .1) .3))
+    (s .pre .0, subst (λ (z : ℤ). Count z) (sym (word (s .fits .count) .is)) (size.samples→ (s .args .ia) (s .args .ib) (s .args .count) (s .pre .1) .3))
 
 currents-requires : tie.Need-currents-requires
 currents-requires c κs =
@@ -77,7 +77,7 @@ pulsed-requires c κs =
     let s = k .before .before .before in
     let d = s .args .d in
     let a = d .field .angle in
-    let h = samples→ (s .args .ia) (s .args .ib) (s .args .count) (s .pre .1) in
+    let h = size.samples→ (s .args .ia) (s .args .ib) (s .args .count) (s .pre .1) in
     let z = currents-size (s .args .ia) (s .args .ib) (sineAt a) (cosineAt a) (size.samples (s .args .ia) (s .args .ib) (s .args .count) (s .pre .1)) (turning a) in (
       rw (turned-is (c .before), currents-are c) (record {
         is-sound = sound← (turned d (s .args .count)) (turned-sound d (s .args .count) (is-sound s) (h .3));

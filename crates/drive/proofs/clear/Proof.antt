@@ -2,9 +2,9 @@
 -- Assumes nothing.
 use mathlib.Core.Path.{_≡_}
 use mathlib.Core.Bool.{true}
-use Rattle.drive.specs.Record.{sound, broken}
+use Rattle.record.specs.Record.{sound, broken}
 use Rattle.drive.specs.Calls.{cleared}
-use Rattle.drive.proofs.Asked.{no, yes}
+use Rattle.record.proofs.Asked.{no, yes}
 use Rattle.drive.proofs.clear.Statement.{statement}
 use Rattle.drive.proofs.clear.Tie as tie
 

@@ -4,13 +4,13 @@ use mathlib.Core.Path.{_≡_, _∙_, ap, ap₂}
 use mir.Syntax.{w32}
 use Rattle.fixed.proofs.Equal.{ap₃}
 use Rattle.fixed.proofs.Reading.{Reads, m32, local, stored, result, bound}
-use Rattle.drive.specs.declared.Command.{Command}
-use Rattle.drive.specs.Record.{sound}
+use Rattle.record.specs.declared.Command.{Command}
+use Rattle.record.specs.Record.{sound}
 use Rattle.drive.specs.Step.{rampedBy, speedRegulated, withCommand, commanded}
-use Rattle.drive.proofs.Ranges.{sound→, accepted←}
+use Rattle.record.proofs.Ranges.{sound→, accepted←}
 use Rattle.drive.proofs.Sizes as size
 use Rattle.drive.proofs.Kept.{ramped-size}
-use Rattle.drive.proofs.DriveTold.{told}
+use Rattle.record.proofs.DriveTold.{told}
 use Rattle.drive.proofs.commanded.Statement.{statement}
 use Rattle.drive.proofs.commanded.Tie as tie
 

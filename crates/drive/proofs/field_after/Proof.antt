@@ -4,9 +4,9 @@ use mir.Syntax.{w32}
 use Rattle.fixed.proofs.Reading.{local, bound}
 use Rattle.frames.proofs.RotorTold.{told as rotor-told}
 use Rattle.drive.specs.Step.{fieldAfter}
-use Rattle.drive.proofs.Ranges.{sound→}
+use Rattle.record.proofs.Ranges.{sound→}
 use Rattle.drive.proofs.Sizes as size
-use Rattle.drive.proofs.DriveTold.{told}
+use Rattle.record.proofs.DriveTold.{told}
 use Rattle.drive.proofs.field_after.Statement.{statement}
 use Rattle.drive.proofs.field_after.Tie as tie
 

@@ -1,7 +1,7 @@
 -- `drive::fresh` meets its contract.
 -- Assumes nothing.
-use Rattle.drive.specs.Record.{fresh as freshOf}
-use Rattle.drive.proofs.SettingsTold.{told}
+use Rattle.drive.specs.Calls.{fresh as freshOf}
+use Rattle.record.proofs.SettingsTold.{told}
 use Rattle.drive.proofs.fresh.Statement.{statement}
 use Rattle.drive.proofs.fresh.Tie as tie
 

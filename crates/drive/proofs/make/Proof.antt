@@ -3,7 +3,7 @@
 use mathlib.Core.Path.{sym, _∙_}
 use mir.Syntax.{w32}
 use Rattle.fixed.proofs.Reading.{answer}
-use Rattle.drive.specs.Record.{made}
+use Rattle.drive.specs.Calls.{made}
 use Rattle.drive.proofs.make.Statement.{statement}
 use Rattle.drive.proofs.make.Tie as tie
 

@@ -12,13 +12,13 @@ use Rattle.frames.specs.Frames.{inversePark}
 use Rattle.frames.proofs.FrameLaws.{back-alpha-size, back-beta-size}
 use Rattle.modulation.specs.declared.Pulses.{Pulses}
 use Rattle.modulation.specs.Modulation.{modulated, Period}
-use Rattle.drive.specs.declared.Drive.{Drive}
+use Rattle.record.specs.declared.Drive.{Drive}
 use Rattle.drive.specs.declared.Voltage.{Voltage}
 use Rattle.drive.specs.Step.{voltageFor, withField, outcome, pulsed}
-use Rattle.drive.proofs.Ranges.{Sound, sound→}
+use Rattle.record.proofs.Ranges.{Sound, sound→}
 use Rattle.drive.proofs.Sizes as size
 use Rattle.drive.proofs.Kept.{asked-size}
-use Rattle.drive.proofs.DriveTold.{told}
+use Rattle.record.proofs.DriveTold.{told}
 use Rattle.drive.proofs.pulsed.Statement.{statement}
 use Rattle.drive.proofs.pulsed.Tie as tie
 

@@ -7,9 +7,9 @@ use Rattle.fixed.proofs.Equal.{ap₃}
 use Rattle.shaft.specs.Shaft.{rampedTo, weakened}
 use Rattle.fixed.proofs.Reading.{word, answer, sized, local, bound}
 use Rattle.drive.specs.Step.{rampedBy}
-use Rattle.drive.proofs.Ranges.{sound→}
+use Rattle.record.proofs.Ranges.{sound→}
 use Rattle.drive.proofs.Sizes as size
-use Rattle.drive.proofs.DriveTold.{told}
+use Rattle.record.proofs.DriveTold.{told}
 use Rattle.drive.proofs.ramped_by.Statement.{statement}
 use Rattle.drive.proofs.ramped_by.Tie as tie
 

@@ -7,7 +7,7 @@ use mir.Facts.{toZ-ofZ}
 use mir.Syntax.{w32}
 use Rattle.fixed.proofs.HeldLaws.{and-left, and-right}
 use Rattle.fixed.proofs.Reading.{Reads, m32, sized, word, plus, stored, fits}
-use Rattle.drive.specs.Record.{inside}
+use Rattle.record.specs.Record.{inside}
 use Rattle.drive.specs.Calls.{sampleOk}
 use Rattle.drive.proofs.CallLaws.{inside-is, inside-size}
 use Rattle.drive.proofs.sample_ok.Statement.{statement}

@@ -7,9 +7,9 @@ use Rattle.fixed.proofs.Equal.{ap₄}
 use Rattle.fixed.proofs.Reading.{Reads, m32, word, sized, minus, stored, fits}
 use Rattle.regulator.specs.Regulator.{regulated}
 use Rattle.drive.specs.Step.{speedGains, speedRegulated}
-use Rattle.drive.proofs.Ranges.{accepted→}
+use Rattle.record.proofs.Ranges.{accepted→}
 use Rattle.drive.proofs.Regulating.{gains-are, read-sized, speed-sized}
-use Rattle.drive.proofs.SettingsTold.{Back, told}
+use Rattle.record.proofs.SettingsTold.{Back, told}
 use Rattle.drive.proofs.speed_regulated.Statement.{statement}
 use Rattle.drive.proofs.speed_regulated.Tie as tie
 

@@ -3,9 +3,9 @@
 use mathlib.Core.Path.{_≡_}
 use mathlib.Core.Bool.{true}
 use mir.Facts.{toZ-ofZ}
-use Rattle.drive.specs.Record.{sound, broken}
+use Rattle.record.specs.Record.{sound, broken}
 use Rattle.drive.specs.Calls.{stepped}
-use Rattle.drive.proofs.Asked.{no, yes}
+use Rattle.record.proofs.Asked.{no, yes}
 use Rattle.drive.proofs.step.Statement.{statement}
 use Rattle.drive.proofs.step.Tie as tie
 

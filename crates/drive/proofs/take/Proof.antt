@@ -3,7 +3,7 @@
 use mathlib.Core.Path.{_≡_, sym, _∙_}
 use mir.Facts.{toZ-ofZ}
 use Rattle.drive.specs.Calls.{sampleOk, taken}
-use Rattle.drive.proofs.DriveTold.{told}
+use Rattle.record.proofs.DriveTold.{told}
 use Rattle.drive.proofs.take.Statement.{statement}
 use Rattle.drive.proofs.take.Tie as tie
 

@@ -5,9 +5,9 @@ use mathlib.Core.Bool.{true}
 use lib.IntN.{pos}
 use mir.Facts.{toZ-ofZ}
 use Rattle.fixed.proofs.Reading.{word}
-use Rattle.drive.specs.Record.{inside, sound, broken}
+use Rattle.record.specs.Record.{inside, sound, broken}
 use Rattle.drive.specs.Calls.{targeted}
-use Rattle.drive.proofs.Asked.{no, yes}
+use Rattle.record.proofs.Asked.{no, yes}
 use Rattle.drive.proofs.CallLaws.{inside-is}
 use Rattle.drive.proofs.target.Statement.{statement}
 use Rattle.drive.proofs.target.Tie as tie

@@ -7,12 +7,12 @@ use Prim.Native.Nat.{_≤_}
 use Rattle.fixed.proofs.Reading.{word}
 use Rattle.shaft.specs.declared.Shaft.{Shaft}
 use Rattle.shaft.specs.Shaft.{counted, thirtieth, measured, Count}
-use Rattle.drive.specs.declared.Drive.{Drive}
+use Rattle.record.specs.declared.Drive.{Drive}
 use Rattle.drive.specs.Step.{withShaft, commanded, turned}
-use Rattle.drive.proofs.Ranges.{sound→}
+use Rattle.record.proofs.Ranges.{sound→}
 use Rattle.drive.proofs.Sizes as size
 use Rattle.drive.proofs.Kept.{measured-size}
-use Rattle.drive.proofs.DriveTold.{told}
+use Rattle.record.proofs.DriveTold.{told}
 use Rattle.drive.proofs.turned.Statement.{statement}
 use Rattle.drive.proofs.turned.Tie as tie
 

@@ -8,11 +8,11 @@ use Rattle.fixed.proofs.Reading.{local, bound}
 use Rattle.regulator.specs.declared.Regulated.{Regulated}
 use Rattle.regulator.proofs.RegulatedTold.{told as regulated-told}
 use Rattle.frames.proofs.RotorTold.{told as rotor-told}
-use Rattle.drive.specs.Record.{accepted}
+use Rattle.record.specs.Record.{accepted}
 use Rattle.drive.specs.Step.{currentRegulated, dRegulated, qRegulated, voltageOf, voltageFor}
-use Rattle.drive.proofs.Ranges.{Sound, sound→, accepted←}
+use Rattle.record.proofs.Ranges.{Sound, sound→, accepted←}
 use Rattle.drive.proofs.Sizes as size
-use Rattle.drive.proofs.DriveTold.{Back, told}
+use Rattle.record.proofs.DriveTold.{Back, told}
 use Rattle.drive.proofs.voltage_for.Statement.{statement}
 use Rattle.drive.proofs.voltage_for.Tie as tie
 

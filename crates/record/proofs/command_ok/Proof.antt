@@ -1,0 +1,31 @@
+-- `record::command_ok` meets its contract.
+-- Assumes nothing.
+use Rattle.fixed.proofs.Reading.{fits, bound}
+use Rattle.record.specs.Record.{inside as isInside, commandOk}
+use Rattle.record.proofs.SettingsTold.{told, Back}
+use Rattle.record.proofs.CommandTold.{told as told-command}
+use Rattle.record.proofs.Asked.{field, wide}
+use Rattle.record.proofs.command_ok.Statement.{statement}
+use Rattle.record.proofs.command_ok.Tie as tie
+
+back : (s : tie.Start) → Back (s .args .s)
+back s = told (s .args .s) _ (s .good .0 .1 .1)
+
+returns : tie.Need-returns
+unfolding commandOk isInside
+returns c =
+    let c3 = c .before .before .before in
+    let c2 = c3 .before .before .before .before in
+    let c1 = c2 .before .before in
+    let s = c1 .before .before in
+    let b = told-command (s .args .c) _ (s .good .1 .0 .1 .1) in
+    simp (c1 .within .ensures, c2 .within2 .ensures, c3 .inside .ensures, c .within3 .ensures, b .target, b .reference, b .torque, b .flux, wide (back s .q) .is, back s .f)
+
+cast-inside : tie.Need-cast-inside
+cast-inside c = fits (field (back (c .before .before .before .before .before .before) .q)) tt
+
+inside-requires : tie.Need-inside-requires
+inside-requires c κs = bound (wide (back (c .before .before .before .before .before .before .before) .q)) tt
+
+pub command-ok-spec : {M : Type 1} → statement M
+command-ok-spec = tie.close (tie.spec (λ c κs. tt) (λ c κs. tt) cast-inside inside-requires (λ c κs. tt) returns)
