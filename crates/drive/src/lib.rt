@@ -35,6 +35,7 @@ ghost use Rattle.drive.specs.Calls.{
   taken,
   stepped,
   aimed as aimedOf,
+  with,
   targeted,
   cleared,
 };
@@ -345,32 +346,29 @@ fn aimed(d: Drive, wanted: i32) -> Drive
     n
 }
 
+fn answer(d: Drive, number: i32) -> Answered
+    ensures { λ r. ⌜ r ≡ with d number ⌝ }
+{
+    Answered {
+        drive: d,
+        number: number,
+    }
+}
+
 // A new target for the speed reference.
 pub fn target(d: Drive, wanted: i32) -> Answered
     ensures { λ r. ⌜ r ≡ targeted d wanted ⌝ }
 {
     if !record::sound(d) {
-        return Answered {
-            drive: d,
-            number: 14,
-        };
+        return answer(d, 14);
     }
     if d.tripped {
-        return Answered {
-            drive: d,
-            number: 7,
-        };
+        return answer(d, 7);
     }
     if !fixed::within(-8191, 8191, wanted) {
-        return Answered {
-            drive: d,
-            number: 8,
-        };
+        return answer(d, 8);
     }
-    Answered {
-        drive: aimed(d, wanted),
-        number: 0,
-    }
+    answer(aimed(d, wanted), 0)
 }
 
 // After a trip: a fresh drive of the same settings.
@@ -378,19 +376,10 @@ pub fn clear(d: Drive) -> Answered
     ensures { λ r. ⌜ r ≡ cleared d ⌝ }
 {
     if !record::sound(d) {
-        return Answered {
-            drive: d,
-            number: 14,
-        };
+        return answer(d, 14);
     }
     if d.tripped {
-        return Answered {
-            drive: fresh(d.settings),
-            number: 0,
-        };
+        return answer(fresh(d.settings), 0);
     }
-    Answered {
-        drive: d,
-        number: 10,
-    }
+    answer(d, 10)
 }

@@ -3,25 +3,28 @@
 use mathlib.Core.Path.{_≡_}
 use mathlib.Core.Bool.{true}
 use Rattle.record.specs.Record.{sound, broken}
-use Rattle.drive.specs.Calls.{cleared}
 use Rattle.record.proofs.Asked.{no, yes}
+use Rattle.drive.specs.Calls.{cleared}
 use Rattle.drive.proofs.clear.Statement.{statement}
 use Rattle.drive.proofs.clear.Tie as tie
 
 returns : tie.Need-returns
 unfolding cleared broken
-returns c = simp (no (c .before .sound .ensures) (c .if1 .taken))
+returns c = simp (c .answer .ensures, no (c .before .before .sound .ensures) (c .before .if1 .taken))
 
 is-sound : (c : tie.Else1) → sound (c .before .before .args .d) ≡ true
 is-sound c = yes (c .before .sound .ensures) (c .if1 .left)
 
 returns-2 : tie.Need-returns-2
 unfolding cleared broken
-returns-2 c = simp (c .fresh .ensures, is-sound (c .before .before), c .before .if2 .taken)
+returns-2 c =
+    let k = c .before in
+    let e = k .before in
+    simp (c .answer2 .ensures, k .fresh .ensures, is-sound (e .before), e .if2 .taken)
 
 returns-3 : tie.Need-returns-3
 unfolding cleared broken
-returns-3 c = simp (is-sound (c .before), c .if2 .left)
+returns-3 c = let e = c .before in simp (c .answer3 .ensures, is-sound (e .before), e .if2 .left)
 
 pub clear-spec : {M : Type 1} → statement M
-clear-spec = tie.close (tie.spec (λ c κs. tt) returns (λ c κs. tt) returns-2 returns-3)
+clear-spec = tie.close (tie.spec (λ c κs. tt) (λ c κs. tt) returns (λ c κs. tt) (λ c κs. tt) returns-2 (λ c κs. tt) returns-3)

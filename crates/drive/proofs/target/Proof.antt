@@ -14,14 +14,14 @@ use Rattle.drive.proofs.target.Tie as tie
 
 returns : tie.Need-returns
 unfolding targeted broken
-returns c = simp (no (c .before .sound .ensures) (c .if1 .taken))
+returns c = simp (c .answer .ensures, no (c .before .before .sound .ensures) (c .before .if1 .taken))
 
 is-sound : (c : tie.Else1) → sound (c .before .before .args .d) ≡ true
 is-sound c = yes (c .before .sound .ensures) (c .if1 .left)
 
 returns-2 : tie.Need-returns-2
 unfolding targeted broken
-returns-2 c = simp (is-sound (c .before), c .if2 .taken)
+returns-2 c = simp (c .answer2 .ensures, is-sound (c .before .before), c .before .if2 .taken)
 
 wanted-is : (c : tie.After-within) → c .within .result ≡ inside (pos 8191) (c .before .before .before .before .args .wanted)
 wanted-is c = inside-is 8191 (c .within .ensures) (word (c .before .before .before .before .fits .wanted))
@@ -29,15 +29,17 @@ wanted-is c = inside-is 8191 (c .within .ensures) (word (c .before .before .befo
 returns-3 : tie.Need-returns-3
 unfolding targeted broken
 returns-3 c =
-    let e = c .before .before in
-    simp (is-sound (e .before), e .if2 .left, no (wanted-is (c .before)) (c .if3 .taken))
+    let k = c .before .before in
+    let e = k .before in
+    simp (c .answer3 .ensures, is-sound (e .before), e .if2 .left, no (wanted-is k) (c .before .if3 .taken))
 
 returns-4 : tie.Need-returns-4
 unfolding targeted broken
 returns-4 c =
-    let k = c .before .before in
+    let a = c .before in
+    let k = a .before .before in
     let e = k .before in
-    simp (c .aimed .ensures, toZ-ofZ (e .before .before .before .fits .wanted), is-sound (e .before), e .if2 .left, yes (wanted-is k) (c .before .if3 .left))
+    simp (c .answer4 .ensures, a .aimed .ensures, toZ-ofZ (e .before .before .before .fits .wanted), is-sound (e .before), e .if2 .left, yes (wanted-is k) (a .before .if3 .left))
 
 pub target-spec : {M : Type 1} → statement M
-target-spec = tie.close (tie.spec (λ c κs. tt) returns returns-2 (λ c κs. tt) returns-3 (λ c κs. tt) returns-4)
+target-spec = tie.close (tie.spec (λ c κs. tt) (λ c κs. tt) returns (λ c κs. tt) returns-2 (λ c κs. tt) (λ c κs. tt) returns-3 (λ c κs. tt) (λ c κs. tt) returns-4)
