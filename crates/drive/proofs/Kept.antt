@@ -28,10 +28,12 @@ use Rattle.shaft.proofs.Ramp.{ramp-size}
 use Rattle.shaft.proofs.Weakening.{weakened-lo, weakened-hi}
 use Rattle.record.specs.declared.Settings.{Settings}
 use Rattle.record.specs.declared.Drive.{Drive}
-use Rattle.record.specs.Record.{accepted}
+use Rattle.record.specs.Record.{accepted, inside, broken}
+use Rattle.drive.specs.declared.Stepped.{Stepped}
+use Rattle.drive.specs.declared.Answered.{Answered}
 use Rattle.drive.specs.Step.{speedGains, currentGains, speedRegulated, currentRegulated, rampedBy, withTorque, withSpeed, withShaft, withCommand, commanded, turned, currents, fieldAfter, dRegulated, qRegulated, voltageOf, voltageFor, withField, outcome, pulsed, driven, advanced, Currents, Turning}
-use Rattle.drive.specs.Calls.{fresh, sampleOk, tripped, aimedAt, aimed}
-use Rattle.record.proofs.Ranges.{In, Inside, GainsIn, SettingsIn, ShaftIn, Sound, accepted→}
+use Rattle.drive.specs.Calls.{fresh, sampleOk, tripped, refused, taken, stepped, aimedAt, aimed, targeted, cleared}
+use Rattle.record.proofs.Ranges.{In, Inside, GainsIn, SettingsIn, ShaftIn, Sound, accepted→, accepted←, not-broken}
 use Rattle.drive.proofs.Sizes as size
 
 -- ════ a fresh drive
@@ -150,14 +152,14 @@ unfolding withShaft
 with-shaft-sound d s h i =
     record { settings = h .settings; shaft = i; command = h .command; field = h .field; integrals = h .integrals }
 
-choose : (b : Bool) (x y : Drive) → (b ≡ true → Sound x) → (b ≡ false → Sound y) → Sound (cond b x y)
-choose true x y f g = f refl
-choose false x y f g = g refl
+choose : {A : Type 0} (Q : A → Type 0) (b : Bool) (x y : A) → (b ≡ true → Q x) → (b ≡ false → Q y) → Q (cond b x y)
+choose Q true x y f g = f refl
+choose Q false x y f g = g refl
 
 pub turned-sound : (d : Drive) (count : ℤ) → Sound d → Count count → Sound (turned d count)
 unfolding turned
 turned-sound d count h c =
-    choose (thirtieth (d .shaft)) _ _
+    choose Sound (thirtieth (d .shaft)) _ _
     (λ e. commanded-sound d _ h (measured-in _ (d .settings .kn) (counted-count (d .shaft) count c)))
     (λ e. with-shaft-sound d _ h (counted-in (d .shaft) count (h .shaft) c e))
 
@@ -238,3 +240,35 @@ aimed-sound d wanted h w = record {
   field = h .field;
   integrals = h .integrals;
 }
+
+-- ════ every call, accepted or refused
+pub step-taken : (d : Drive) (ia ib count : ℤ) → Sound d → stepped d ia ib count ≡ taken d ia ib count
+unfolding stepped
+step-taken d ia ib count h = rw (not-broken d .1 h) refl
+
+pub taken-sound : (d : Drive) (ia ib count : ℤ) → Sound d → Sound (taken d ia ib count .drive)
+unfolding taken refused
+taken-sound d ia ib count h =
+    let Q : Stepped → Type 0 = λ s. Sound (s .drive) in
+    choose Q (d .tripped) _ _
+    (λ t. h)
+    (λ t. choose Q (sampleOk ia ib count) _ _ (λ e. advanced-sound d ia ib count h e) (λ e. tripped-sound d h))
+
+pub stepped-sound : (d : Drive) (ia ib count : ℤ) → Sound d → Sound (stepped d ia ib count .drive)
+stepped-sound d ia ib count h = rw (step-taken d ia ib count h) (taken-sound d ia ib count h)
+
+pub targeted-sound : (d : Drive) (wanted : ℤ) → Sound d → Sound (targeted d wanted .drive)
+unfolding targeted inside
+targeted-sound d wanted h =
+    let Q : Answered → Type 0 = λ a. Sound (a .drive) in
+    choose Q (broken d) _ _
+    (λ b. h)
+    (λ b. choose Q (d .tripped) _ _ (λ t. h) (λ t. choose Q (inside (pos 8191) wanted) _ _ (λ w. aimed-sound d wanted h w) (λ w. h)))
+
+pub cleared-sound : (d : Drive) → Sound d → Sound (cleared d .drive)
+unfolding cleared
+cleared-sound d h =
+    let Q : Answered → Type 0 = λ a. Sound (a .drive) in
+    choose Q (broken d) _ _
+    (λ b. h)
+    (λ b. choose Q (d .tripped) _ _ (λ t. fresh-sound (d .settings) (accepted← (d .settings) (h .settings))) (λ t. h))
