@@ -5,7 +5,7 @@ use mathlib.Core.List.{[], _∷_}
 use mathlib.Core.Option.{none, some}
 use lib.IntN.{pos, negℤ}
 use Rattle.text.specs.Grammar.{allDigits, valueOf, digitsOf, fitting, numberOf, cut, both, numbersOf, lineOf}
-use Rattle.text.specs.Decimal.{decimal, countText, textOf}
+use Rattle.text.specs.Decimal.{decimal, countText, textOf, moreText, numbersText, lineText}
 
 -- ════ numbers
 -- -007
@@ -132,3 +132,8 @@ text-least = refl
 text-count : countText 18446744073709551615 ≡ 49 ∷ 56 ∷ 52 ∷ 52 ∷ 54 ∷ 55 ∷ 52 ∷ 52 ∷ 48 ∷ 55 ∷ 51 ∷ 55 ∷ 48 ∷ 57 ∷ 53 ∷ 53 ∷ 49 ∷ 54 ∷ 49 ∷ 53 ∷ []
 unfolding countText decimal
 text-count = refl
+
+-- 1 -2 and a line feed
+text-line : lineText (pos 1 ∷ negℤ (pos 2) ∷ []) ≡ 49 ∷ 32 ∷ 45 ∷ 50 ∷ 10 ∷ []
+unfolding lineText numbersText moreText textOf countText decimal
+text-line = refl

@@ -1,11 +1,11 @@
--- What is written is read back: the text of a number of 32 bits is that number's word.
+-- What is written is read back: the text of a number of 32 bits is that number's word, and that of numbers is their line.
 -- Assumes nothing.
 use mathlib.Core.Path.{_≡_, refl, ap, _∙_}
 use mathlib.Core.Bool.{Bool, true, false}
-use mathlib.Core.List.{List, [], _∷_, _++_}
+use mathlib.Core.List.{List, [], _∷_, _++_, map, append-assoc, append-nil}
 use mathlib.Core.Logic.{⊎-elim}
 use mathlib.Core.Option.{none, some}
-use Prim.Native.Nat.{ℕ, zero, suc, _+_, _-_, _*_, _/_, _^_, _<_}
+use Prim.Native.Nat.{ℕ, zero, suc, _+_, _-_, _*_, _/_, _^_, _≤_, _<_}
 use native.Mathlib.Omega.{arith}
 use borrow.Author.Tests.{le-leb, ne-eqb, leb-true}
 use lib.Dec.{leb}
@@ -17,10 +17,11 @@ use Rattle.fixed.specs.Fixed.{within}
 use Rattle.fixed.proofs.Parts.{order}
 use Rattle.fixed.proofs.Size.{fits-hi, fits-lo}
 use Rattle.fixed.proofs.HeldLaws.{and-left, and-right, and-both, within-yes}
-use Rattle.text.specs.Grammar.{isDigit, allDigits, valueOf, digitsOf, signed, least, greatest, fitting, numberOf}
-use Rattle.text.specs.Decimal.{digitOf, decimal, countText, textOf}
+use Rattle.text.specs.Grammar.{isDigit, allDigits, valueOf, digitsOf, signed, least, greatest, fitting, numberOf, cut, both, numbersOf, lineOf}
+use Rattle.text.specs.Decimal.{digitOf, decimal, countText, textOf, moreText, numbersText}
 use Rattle.text.proofs.Choice.{less-or-not}
 use Rattle.text.proofs.DecimalLaws.{decimal-one, decimal-more, tenth, length-more}
+use Rattle.text.proofs.LineLaws.{AllFit, nil, cons}
 use Rattle.text.proofs.Words.{cond-true, cond-false}
 
 -- ════ digits, and one more at the end
@@ -102,3 +103,36 @@ round-trip (pos n) f =
 round-trip (negsuc n) f =
     ap (fitting true) (count-back (suc n) (omega (arith, f .sfits)))
     ∙ fitting-yes true (suc n) (in-range (negsuc n) f)
+
+-- ════ a line
+-- digits go to the word that is being cut, and so does a sign
+cut-digits : (w ds bs : List ℕ) → allDigits ds ≡ true → cut w (ds ++ bs) ≡ cut (w ++ ds) bs
+unfolding cut allDigits
+cut-digits w [] bs h = rw (append-nil w) refl
+cut-digits w (d ∷ ds) bs h =
+    let g = leb-true 48 d (and-left (leb 48 d) (leb d 57) (and-left (isDigit d) (allDigits ds) h)) in
+    cond-false (w ∷ cut [] (ds ++ bs)) (cut (w ++ (d ∷ [])) (ds ++ bs)) (ne-eqb d 32 (λ e. omega (arith, g, e)))
+    ∙ cut-digits (w ++ (d ∷ [])) ds bs (and-right (isDigit d) (allDigits ds) h)
+    ∙ ap (λ (v : List ℕ). cut v bs) (append-assoc w (d ∷ []) ds)
+
+cut-text : (z : ℤ) (bs : List ℕ) → cut [] (textOf z ++ bs) ≡ cut (textOf z) bs
+unfolding textOf cut
+cut-text (pos n) bs = cut-digits [] (countText n) bs (plain-digits n)
+cut-text (negsuc n) bs = cut-digits (45 ∷ []) (countText (suc n)) bs (plain-digits (suc n))
+
+-- each number is a word
+cut-more : (w : List ℕ) (zs : List ℤ) → cut w (moreText zs) ≡ w ∷ map textOf zs
+unfolding moreText cut
+cut-more w [] = refl
+cut-more w (z ∷ zs) = ap (λ (ws : List (List ℕ)). w ∷ ws) (cut-text z (moreText zs) ∙ cut-more (textOf z) zs)
+
+words-back : {zs : List ℤ} → AllFit zs → numbersOf (map textOf zs) ≡ some zs
+unfolding numbersOf both
+words-back nil = refl
+words-back (cons {z} {zs} f fs) = rw (round-trip z f, words-back fs) refl
+
+-- the line without its line feed
+pub line-back : {zs : List ℤ} → 1 ≤ length zs → AllFit zs → lineOf (numbersText zs) ≡ some zs
+unfolding lineOf numbersText
+line-back h nil = absurd (omega (arith, h))
+line-back h (cons {z} {zs} f fs) = ap numbersOf (cut-text z (moreText zs) ∙ cut-more (textOf z) zs) ∙ words-back (cons f fs)

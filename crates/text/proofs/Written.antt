@@ -16,6 +16,12 @@ pub written-one : (o : List ℕ) (at b : ℕ) → at + 1 ≤ length o → set o 
 unfolding written
 written-one o at b h = rw (set-split o at b (omega arith), ← add-one at) refl
 
+pub written-none : (o : List ℕ) (at : ℕ) → o ≡ written o at []
+unfolding written
+written-none o at =
+    let e : at + 0 ≡ at = omega arith in
+    rw e (sym (take-append-drop at o))
+
 pub written-length : (o bs : List ℕ) (at : ℕ) → at + length bs ≤ length o → length (written o at bs) ≡ length o
 unfolding written
 written-length o bs at h = simp (length-append, length-take, length-drop) (omega arith)

@@ -29,6 +29,20 @@ unfoldable pub textOf : ℤ → List ℕ
 textOf (pos n) = countText n
 textOf (negsuc n) = 45 ∷ countText (suc n)
 
+-- numbers that follow another: a space (32) in front of each
+unfoldable pub moreText : List ℤ → List ℕ
+moreText [] = []
+moreText (z ∷ zs) = 32 ∷ (textOf z ++ moreText zs)
+
+-- numbers as text, with one space between
+unfoldable pub numbersText : List ℤ → List ℕ
+numbersText [] = []
+numbersText (z ∷ zs) = textOf z ++ moreText zs
+
+-- a line: numbers, and a line feed (10)
+unfoldable pub lineText : List ℤ → List ℕ
+lineText zs = numbersText zs ++ (10 ∷ [])
+
 -- o with bs written over it from the place at on
 unfoldable pub written : List ℕ → ℕ → List ℕ → List ℕ
 written o at bs = take at o ++ (bs ++ drop (at + length bs) o)

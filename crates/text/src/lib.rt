@@ -1,9 +1,9 @@
 // Numbers as text: lines of decimal numbers read byte by byte, so that a line may be of any length, and numbers written into a buffer.
 ghost use mathlib.Core.Path.{_≡_};
-ghost use Prim.Native.Nat.{_+_, _≤_, min};
+ghost use Prim.Native.Nat.{_+_, _*_, _≤_, min};
 ghost use mathlib.Core.List.{_∷_, []};
 ghost use lib.IntN.{natAbs};
-ghost use lib.ListN.{length};
+ghost use lib.ListN.{length, take};
 ghost use Rattle.text.specs.Automaton.{
   wordStart,
   wordNext,
@@ -16,7 +16,7 @@ ghost use Rattle.text.specs.Automaton.{
   numbersNext,
   numbersEnd,
 };
-ghost use Rattle.text.specs.Decimal.{lastDigits, countText, textOf, written};
+ghost use Rattle.text.specs.Decimal.{lastDigits, countText, textOf, lineText, written};
 
 // A number that is being read: whether a minus sign, whether a digit came, whether it is no number, and its value without the sign.
 pub struct Word {
@@ -181,7 +181,7 @@ pub fn put_byte(b: u8, out: &mut [u8], at: usize) -> usize
 // A count as text, for which there is room whatever it is.
 pub fn put_count(count: u64, out: &mut [u8], at: usize) -> usize
     requires { ⌜ at + 20 ≤ length (now out) ⌝ }
-    ensures { λ r. ⌜ (r ≡ at + length (countText count)) × (now (out .exit) ≡ written (now (out .entry)) at (countText count)) ⌝ }
+    ensures { λ r. ⌜ (r ≡ at + length (countText count)) × (now (out .exit) ≡ written (now (out .entry)) at (countText count)) × (r ≤ at + 20) ⌝ }
 {
     put_digits(count, out, at)
 }
@@ -206,4 +206,19 @@ pub fn put(v: i32, out: &mut [u8], at: usize) -> usize
     } else {
         put_digits(n, out, at)
     }
+}
+
+// The first k numbers as a line. Twelve places for each are room whatever they are.
+pub fn put_line(numbers: &[i32], k: usize, out: &mut [u8], at: usize) -> usize
+    requires { ⌜ (1 ≤ k) × (k ≤ length (now numbers)) × (at + 12 * k ≤ length (now out)) ⌝ }
+    ensures { λ r. ⌜ (r ≡ at + length (lineText (take k (now (numbers .entry))))) × (now (out .exit) ≡ written (now (out .entry)) at (lineText (take k (now (numbers .entry))))) × (r ≤ at + 12 * k) ⌝ }
+{
+    let mut place = put(numbers[0], out, at);
+    let mut i = 1;
+    while i < k {
+        place = put_byte(32, out, place);
+        place = put(numbers[i], out, place);
+        i += 1;
+    }
+    put_byte(10, out, place)
 }

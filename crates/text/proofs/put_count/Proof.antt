@@ -7,7 +7,10 @@ use Rattle.text.proofs.put_count.Statement.{statement}
 use Rattle.text.proofs.put_count.Tie as tie
 
 returns : tie.Need-returns
-returns c = search needs
+returns c =
+    let k = c .before .before in
+    let s = k .before .before .before .args in
+    (k .put-digits .ensures .0, k .put-digits .ensures .1, omega (arith, k .put-digits .ensures .0, count-length (s .count) (omega arith)))
 
 put-digits-requires : tie.Need-put-digits-requires
 put-digits-requires c κs = omega (arith, count-length (c .before .before .args .count) (omega arith))

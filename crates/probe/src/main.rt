@@ -1,0 +1,421 @@
+// The calls as text: each line of standard input is one call of `drive`, each line of standard output is what it answered. So that a
+// model of the drive, in any language, can be held against it word by word.
+ghost use mathlib.Core.Path.{_≡_};
+ghost use Prim.Native.Nat.{_+_, _≤_};
+ghost use lib.ListN.{length};
+use drive::Answered;
+use drive::Made;
+use drive::Stepped;
+use field::Field;
+use frames::Stator;
+use libc::STDIN_FILENO;
+use libc::STDOUT_FILENO;
+use modulation::Pulses;
+use record::Command;
+use record::Drive;
+use record::Integrals;
+use record::Settings;
+use shaft::Shaft;
+use text::Line;
+
+// What is kept from one byte to the next: the line at hand, its number, whether it is begun and not answered, whether nothing more is to be
+// read, and how many bytes of output wait.
+pub struct State {
+    pub line: Line,
+    pub number: u64,
+    pub begun: bool,
+    pub done: bool,
+    pub place: usize,
+}
+
+// Numbers in: the call, 15 settings, 15 words of the record, then the call's own.
+fn settings_in(n: &[i32]) -> Settings
+    requires { ⌜ 34 ≤ length (now n) ⌝ }
+{
+    Settings {
+        t: n[1],
+        skp: n[2],
+        skcor: n[3],
+        ski: n[4],
+        ckp: n[5],
+        ckcor: n[6],
+        cki: n[7],
+        v: n[8],
+        q: n[9],
+        kr: n[10],
+        kt: n[11],
+        kth: n[12],
+        kn: n[13],
+        f: n[14],
+        r: n[15],
+    }
+}
+
+fn shaft_in(n: &[i32]) -> Shaft
+    requires { ⌜ 34 ≤ length (now n) ⌝ }
+{
+    Shaft {
+        count: n[16],
+        seen: n[17] != 0,
+        sum: n[18],
+        steps: n[19],
+        speed: n[20],
+    }
+}
+
+fn command_in(n: &[i32]) -> Command
+    requires { ⌜ 34 ≤ length (now n) ⌝ }
+{
+    Command {
+        target: n[21],
+        reference: n[22],
+        torque: n[23],
+        flux: n[24],
+    }
+}
+
+fn field_in(n: &[i32]) -> Field
+    requires { ⌜ 34 ≤ length (now n) ⌝ }
+{
+    Field {
+        flux: n[25],
+        angle: n[26],
+    }
+}
+
+fn integrals_in(n: &[i32]) -> Integrals
+    requires { ⌜ 34 ≤ length (now n) ⌝ }
+{
+    Integrals {
+        speed: n[27],
+        d: n[28],
+        q: n[29],
+    }
+}
+
+fn drive_in(n: &[i32]) -> Drive
+    requires { ⌜ 34 ≤ length (now n) ⌝ }
+{
+    Drive {
+        settings: settings_in(n),
+        shaft: shaft_in(n),
+        command: command_in(n),
+        field: field_in(n),
+        integrals: integrals_in(n),
+        tripped: n[30] != 0,
+    }
+}
+
+fn flag(v: i32) -> bool {
+    (v == 0) | (v == 1)
+}
+
+// Whether a line of so many numbers is a call.
+fn is_call(n: &[i32], count: usize) -> bool
+    requires { ⌜ 34 ≤ length (now n) ⌝ }
+{
+    let call = n[0];
+    if call == 0 {
+        return count == 16;
+    }
+    let flags = flag(n[17]) & flag(n[30]);
+    if call == 1 {
+        return flags & (count == 34);
+    }
+    if call == 2 {
+        return flags & (count == 32);
+    }
+    flags & (call == 3) & (count == 31)
+}
+
+// Numbers out.
+fn word(b: bool) -> i32 {
+    if b { 1 } else { 0 }
+}
+
+// One word at a place; answers the place after it, as the others do.
+fn put_word(v: i32, words: &mut [i32], at: usize) -> usize
+    requires { ⌜ at + 1 ≤ length (now words) ⌝ }
+    ensures { λ r. ⌜ r ≡ at + 1 ⌝ }
+{
+    words[at] = v;
+    at + 1
+}
+
+fn shaft_out(s: Shaft, words: &mut [i32], at: usize) -> usize
+    requires { ⌜ at + 5 ≤ length (now words) ⌝ }
+    ensures { λ r. ⌜ r ≡ at + 5 ⌝ }
+{
+    let a = put_word(s.count, words, at);
+    let b = put_word(word(s.seen), words, a);
+    let c = put_word(s.sum, words, b);
+    let d = put_word(s.steps, words, c);
+    put_word(s.speed, words, d)
+}
+
+fn command_out(c: Command, words: &mut [i32], at: usize) -> usize
+    requires { ⌜ at + 4 ≤ length (now words) ⌝ }
+    ensures { λ r. ⌜ r ≡ at + 4 ⌝ }
+{
+    let a = put_word(c.target, words, at);
+    let b = put_word(c.reference, words, a);
+    let d = put_word(c.torque, words, b);
+    put_word(c.flux, words, d)
+}
+
+fn field_out(f: Field, words: &mut [i32], at: usize) -> usize
+    requires { ⌜ at + 2 ≤ length (now words) ⌝ }
+    ensures { λ r. ⌜ r ≡ at + 2 ⌝ }
+{
+    let a = put_word(f.flux, words, at);
+    put_word(f.angle, words, a)
+}
+
+fn integrals_out(x: Integrals, words: &mut [i32], at: usize) -> usize
+    requires { ⌜ at + 3 ≤ length (now words) ⌝ }
+    ensures { λ r. ⌜ r ≡ at + 3 ⌝ }
+{
+    let a = put_word(x.speed, words, at);
+    let b = put_word(x.d, words, a);
+    put_word(x.q, words, b)
+}
+
+// The record's 15 words.
+fn drive_out(d: Drive, words: &mut [i32], at: usize) -> usize
+    requires { ⌜ at + 15 ≤ length (now words) ⌝ }
+    ensures { λ r. ⌜ r ≡ at + 15 ⌝ }
+{
+    let a = shaft_out(d.shaft, words, at);
+    let b = command_out(d.command, words, a);
+    let c = field_out(d.field, words, b);
+    let e = integrals_out(d.integrals, words, c);
+    put_word(word(d.tripped), words, e)
+}
+
+fn pulses_out(p: Pulses, words: &mut [i32], at: usize) -> usize
+    requires { ⌜ at + 4 ≤ length (now words) ⌝ }
+    ensures { λ r. ⌜ r ≡ at + 4 ⌝ }
+{
+    let a = put_word(p.a, words, at);
+    let b = put_word(p.b, words, a);
+    let c = put_word(p.c, words, b);
+    put_word(word(p.clipped), words, c)
+}
+
+fn voltage_out(v: Stator, words: &mut [i32], at: usize) -> usize
+    requires { ⌜ at + 2 ≤ length (now words) ⌝ }
+    ensures { λ r. ⌜ r ≡ at + 2 ⌝ }
+{
+    let a = put_word(v.alpha, words, at);
+    put_word(v.beta, words, a)
+}
+
+// What a step answered, in words, and how many there are; the next three likewise.
+fn stepped(s: Stepped, words: &mut [i32]) -> usize
+    requires { ⌜ 22 ≤ length (now words) ⌝ }
+    ensures { λ r. ⌜ r ≡ 22 ⌝ }
+{
+    let a = put_word(s.number, words, 0);
+    let b = pulses_out(s.pulses, words, a);
+    let c = voltage_out(s.voltage, words, b);
+    drive_out(s.drive, words, c)
+}
+
+fn answered(a: Answered, words: &mut [i32]) -> usize
+    requires { ⌜ 22 ≤ length (now words) ⌝ }
+    ensures { λ r. ⌜ r ≡ 16 ⌝ }
+{
+    let at = put_word(a.number, words, 0);
+    drive_out(a.drive, words, at)
+}
+
+fn made(m: Made, words: &mut [i32]) -> usize
+    requires { ⌜ 22 ≤ length (now words) ⌝ }
+    ensures { λ r. ⌜ (1 ≤ r) × (r ≤ 22) ⌝ }
+{
+    let at = put_word(drive::number_of(m), words, 0);
+    let Made::Ready(d) = m else {
+        return at;
+    };
+    drive_out(d, words, at)
+}
+
+fn answer(n: &[i32], words: &mut [i32]) -> usize
+    requires { ⌜ (34 ≤ length (now n)) × (22 ≤ length (now words)) ⌝ }
+    ensures { λ r. ⌜ (1 ≤ r) × (r ≤ 22) ⌝ }
+{
+    let call = n[0];
+    if call == 0 {
+        return made(drive::make(settings_in(n)), words);
+    }
+    let d = drive_in(n);
+    if call == 1 {
+        return stepped(drive::step(d, n[31], n[32], n[33]), words);
+    }
+    if call == 2 {
+        return answered(drive::target(d, n[31]), words);
+    }
+    answered(drive::clear(d), words)
+}
+
+// Twelve bytes for each of 22 words.
+fn put_answer(n: &[i32], out: &mut [u8], at: usize) -> usize
+    requires { ⌜ (34 ≤ length (now n)) × (at + 264 ≤ length (now out)) ⌝ }
+    ensures { λ r. ⌜ r ≤ at + 264 ⌝ }
+{
+    let mut words = [0i32; 22];
+    let k = answer(n, &mut words);
+    text::put_line(&words, k, out, at)
+}
+
+// `bad` and the number of a line.
+fn put_bad(number: u64, out: &mut [u8], at: usize) -> usize
+    requires { ⌜ at + 25 ≤ length (now out) ⌝ }
+    ensures { λ r. ⌜ r ≤ at + 25 ⌝ }
+{
+    let a = text::put_byte(b'b', out, at);
+    let b = text::put_byte(b'a', out, a);
+    let c = text::put_byte(b'd', out, b);
+    let d = text::put_byte(b' ', out, c);
+    let e = text::put_count(number, out, d);
+    text::put_byte(b'\n', out, e)
+}
+
+fn send(out: &[u8], place: usize)
+    requires { ⌜ place ≤ length (now out) ⌝ }
+{
+    io::write_all(STDOUT_FILENO, &out[..place]);
+}
+
+// What waits is sent where little room is left, and not after each line.
+fn flushed(out: &[u8], place: usize) -> usize
+    requires { ⌜ (place ≤ length (now out)) × (512 ≤ length (now out)) ⌝ }
+    ensures { λ r. ⌜ r + 512 ≤ length (now (out .entry)) ⌝ }
+{
+    if place + 512 <= out.len() {
+        return place;
+    }
+    send(out, place);
+    0
+}
+
+// Held at the end, which no input reaches, so that it does not wrap.
+fn next(number: u64) -> u64 {
+    if number < u64::MAX {
+        number + 1
+    } else {
+        number
+    }
+}
+
+// A line feed came: the line is answered, or it is the last that is read.
+fn ended(s: State, numbers: &mut [i32], out: &mut [u8]) -> State
+    requires { ⌜ (34 ≤ length (now numbers)) × (s .place + 512 ≤ length (now out)) ⌝ }
+    ensures { λ r. ⌜ r .place + 512 ≤ length (now (out .entry)) ⌝ }
+{
+    let l = text::line_end(s.line, numbers);
+    let mut n = s;
+    n.begun = true;
+    n.done = true;
+    if l.bad {
+        return n;
+    }
+    if is_call(numbers, l.count) {
+        let place = put_answer(numbers, out, s.place);
+        n.line = text::line_start();
+        n.number = next(s.number);
+        n.begun = false;
+        n.done = false;
+        n.place = flushed(out, place);
+    }
+    n
+}
+
+// One byte.
+fn fed(s: State, b: u8, numbers: &mut [i32], out: &mut [u8]) -> State
+    requires { ⌜ (34 ≤ length (now numbers)) × (s .place + 512 ≤ length (now out)) ⌝ }
+    ensures { λ r. ⌜ r .place + 512 ≤ length (now (out .entry)) ⌝ }
+{
+    if b == b'\n' {
+        return ended(s, numbers, out);
+    }
+    let mut n = s;
+    n.line = text::line_next(s.line, b, numbers);
+    n.begun = true;
+    n
+}
+
+// The bytes of one read, up to a line that is refused.
+fn fed_all(s: State, bytes: &[u8], numbers: &mut [i32], out: &mut [u8]) -> State
+    requires { ⌜ (34 ≤ length (now numbers)) × (s .place + 512 ≤ length (now out)) ⌝ }
+    ensures { λ r. ⌜ r .place + 512 ≤ length (now (out .entry)) ⌝ }
+{
+    let mut n = s;
+    let mut i = 0;
+    while i < bytes.len() && !n.done {
+        n = fed(n, bytes[i], numbers, out);
+        i += 1;
+    }
+    n
+}
+
+// One read. An error is taken as the end of the input.
+fn fed_some(s: State, bytes: &mut [u8], numbers: &mut [i32], out: &mut [u8]) -> State
+    requires { ⌜ (34 ≤ length (now numbers)) × (s .place + 512 ≤ length (now out)) ⌝ }
+    ensures { λ r. ⌜ r .place + 512 ≤ length (now (out .entry)) ⌝ }
+{
+    let got = libc::read(STDIN_FILENO, bytes);
+    let k = io::count(got, bytes);
+    if k == 0 {
+        let mut n = s;
+        n.done = true;
+        return n;
+    }
+    fed_all(s, &bytes[..k], numbers, out)
+}
+
+// A proved loop has to end, and nothing says that the input does: so the turns are counted, from a number that no run uses up.
+fn fed_input(s: State, bytes: &mut [u8], numbers: &mut [i32], out: &mut [u8]) -> State
+    requires { ⌜ (34 ≤ length (now numbers)) × (s .place + 512 ≤ length (now out)) ⌝ }
+    ensures { λ r. ⌜ r .place + 512 ≤ length (now (out .entry)) ⌝ }
+{
+    let mut n = s;
+    let mut turns = u64::MAX;
+    while 0 < turns && !n.done {
+        n = fed_some(n, bytes, numbers, out);
+        turns -= 1;
+    }
+    n
+}
+
+fn start() -> State
+    ensures { λ r. ⌜ r .place ≡ 0 ⌝ }
+{
+    State {
+        line: text::line_start(),
+        number: 1,
+        begun: false,
+        done: false,
+        place: 0,
+    }
+}
+
+// A line that was begun and not answered is bad, for what it says or for want of a line feed.
+fn finish(s: State, out: &mut [u8]) -> usize
+    requires { ⌜ s .place + 512 ≤ length (now out) ⌝ }
+    ensures { λ r. ⌜ r ≤ length (now (out .entry)) ⌝ }
+{
+    if s.begun {
+        return put_bad(s.number, out, s.place);
+    }
+    s.place
+}
+
+fn main() {
+    let mut bytes = io::large_buffer();
+    let mut numbers = [0i32; 34];
+    let mut out = io::large_buffer();
+    let s = fed_input(start(), &mut bytes, &mut numbers, &mut out);
+    let place = finish(s, &mut out);
+    send(&out, place);
+}
