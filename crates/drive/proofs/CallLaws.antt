@@ -13,6 +13,6 @@ pub inside-is : (b : ℕ) {r : Bool} {u x : ℤ} {m : ℕ} → r ≡ within (neg
 unfolding inside
 inside-is b e p = e ∙ ap (within (negℤ (pos b)) (pos b)) (p .is)
 
-pub inside-size : (b : ℕ) (x : ℤ) → inside (pos b) x ≡ true → natAbs x ≤ b
+pub inside-abs : (b : ℕ) (x : ℤ) → inside (pos b) x ≡ true → natAbs x ≤ b
 unfolding inside
-inside-size b x e = within-abs b x e
+inside-abs b x e = within-abs b x e

@@ -3,27 +3,23 @@
 ghost use mathlib.Core.Path.{_≡_};
 ghost use Prim.Native.Nat.{_+_, _≤_};
 ghost use lib.ListN.{length};
+ghost use Rattle.lines.specs.Chunk.{Inside};
 use drive::Answered;
 use drive::Made;
 use drive::Stepped;
 use field::Field;
 use frames::Stator;
-use libc::STDIN_FILENO;
-use libc::STDOUT_FILENO;
+use lines::Reader;
 use modulation::Pulses;
 use record::Command;
 use record::Drive;
 use record::Integrals;
 use record::Settings;
 use shaft::Shaft;
-use text::Line;
 
-// What is kept from one byte to the next: the line at hand, its number, whether it is begun and not answered, whether nothing more is to be
-// read, and how many bytes of output wait.
+// What is kept from one line to the next: the reader, whether nothing more is to be read, and how many bytes of output wait.
 pub struct State {
-    pub line: Line,
-    pub number: u64,
-    pub begun: bool,
+    pub reader: Reader,
     pub done: bool,
     pub place: usize,
 }
@@ -268,154 +264,52 @@ fn put_answer(n: &[i32], out: &mut [u8], at: usize) -> usize
     text::put_line(&words, k, out, at)
 }
 
-// `bad` and the number of a line.
-fn put_bad(number: u64, out: &mut [u8], at: usize) -> usize
-    requires { ⌜ at + 25 ≤ length (now out) ⌝ }
-    ensures { λ r. ⌜ r ≤ at + 25 ⌝ }
+// One line: its call is answered, or it is the last that is read.
+fn answered_line(s: State, bytes: &mut [u8], numbers: &mut [i32], out: &mut [u8]) -> State
+    requires { ⌜ Inside (s .reader) (now bytes) × (34 ≤ length (now numbers)) × (s .place + 512 ≤ length (now out)) ⌝ }
+    ensures { λ r. ⌜ Inside (r .reader) (now (bytes .exit)) × (r .place + 512 ≤ length (now (out .entry))) ⌝ }
 {
-    let a = text::put_byte(b'b', out, at);
-    let b = text::put_byte(b'a', out, a);
-    let c = text::put_byte(b'd', out, b);
-    let d = text::put_byte(b' ', out, c);
-    let e = text::put_count(number, out, d);
-    text::put_byte(b'\n', out, e)
-}
-
-fn send(out: &[u8], place: usize)
-    requires { ⌜ place ≤ length (now out) ⌝ }
-{
-    io::write_all(STDOUT_FILENO, &out[..place]);
-}
-
-// What waits is sent where little room is left, and not after each line.
-fn flushed(out: &[u8], place: usize) -> usize
-    requires { ⌜ (place ≤ length (now out)) × (512 ≤ length (now out)) ⌝ }
-    ensures { λ r. ⌜ r + 512 ≤ length (now (out .entry)) ⌝ }
-{
-    if place + 512 <= out.len() {
-        return place;
-    }
-    send(out, place);
-    0
-}
-
-// Held at the end, which no input reaches, so that it does not wrap.
-fn next(number: u64) -> u64 {
-    if number < u64::MAX {
-        number + 1
-    } else {
-        number
-    }
-}
-
-// A line feed came: the line is answered, or it is the last that is read.
-fn ended(s: State, numbers: &mut [i32], out: &mut [u8]) -> State
-    requires { ⌜ (34 ≤ length (now numbers)) × (s .place + 512 ≤ length (now out)) ⌝ }
-    ensures { λ r. ⌜ r .place + 512 ≤ length (now (out .entry)) ⌝ }
-{
-    let l = text::line_end(s.line, numbers);
+    let r = lines::next_line(s.reader, bytes, numbers);
     let mut n = s;
-    n.begun = true;
+    n.reader = r;
     n.done = true;
-    if l.bad {
-        return n;
-    }
-    if is_call(numbers, l.count) {
+    if lines::is_line(r) & is_call(numbers, r.line.count) {
         let place = put_answer(numbers, out, s.place);
-        n.line = text::line_start();
-        n.number = next(s.number);
-        n.begun = false;
+        n.place = lines::flushed(out, place, 512);
         n.done = false;
-        n.place = flushed(out, place);
     }
     n
-}
-
-// One byte.
-fn fed(s: State, b: u8, numbers: &mut [i32], out: &mut [u8]) -> State
-    requires { ⌜ (34 ≤ length (now numbers)) × (s .place + 512 ≤ length (now out)) ⌝ }
-    ensures { λ r. ⌜ r .place + 512 ≤ length (now (out .entry)) ⌝ }
-{
-    if b == b'\n' {
-        return ended(s, numbers, out);
-    }
-    let mut n = s;
-    n.line = text::line_next(s.line, b, numbers);
-    n.begun = true;
-    n
-}
-
-// The bytes of one read, up to a line that is refused.
-fn fed_all(s: State, bytes: &[u8], numbers: &mut [i32], out: &mut [u8]) -> State
-    requires { ⌜ (34 ≤ length (now numbers)) × (s .place + 512 ≤ length (now out)) ⌝ }
-    ensures { λ r. ⌜ r .place + 512 ≤ length (now (out .entry)) ⌝ }
-{
-    let mut n = s;
-    let mut i = 0;
-    while i < bytes.len() && !n.done {
-        n = fed(n, bytes[i], numbers, out);
-        i += 1;
-    }
-    n
-}
-
-// One read. An error is taken as the end of the input.
-fn fed_some(s: State, bytes: &mut [u8], numbers: &mut [i32], out: &mut [u8]) -> State
-    requires { ⌜ (34 ≤ length (now numbers)) × (s .place + 512 ≤ length (now out)) ⌝ }
-    ensures { λ r. ⌜ r .place + 512 ≤ length (now (out .entry)) ⌝ }
-{
-    let got = libc::read(STDIN_FILENO, bytes);
-    let k = io::count(got, bytes);
-    if k == 0 {
-        let mut n = s;
-        n.done = true;
-        return n;
-    }
-    fed_all(s, &bytes[..k], numbers, out)
 }
 
 // A proved loop has to end, and nothing says that the input does: so the turns are counted, from a number that no run uses up.
-fn fed_input(s: State, bytes: &mut [u8], numbers: &mut [i32], out: &mut [u8]) -> State
-    requires { ⌜ (34 ≤ length (now numbers)) × (s .place + 512 ≤ length (now out)) ⌝ }
+fn answered_lines(s: State, bytes: &mut [u8], numbers: &mut [i32], out: &mut [u8]) -> State
+    requires { ⌜ Inside (s .reader) (now bytes) × (34 ≤ length (now numbers)) × (s .place + 512 ≤ length (now out)) ⌝ }
     ensures { λ r. ⌜ r .place + 512 ≤ length (now (out .entry)) ⌝ }
 {
     let mut n = s;
     let mut turns = u64::MAX;
     while 0 < turns && !n.done {
-        n = fed_some(n, bytes, numbers, out);
+        n = answered_line(n, bytes, numbers, out);
         turns -= 1;
     }
     n
 }
 
 fn start() -> State
-    ensures { λ r. ⌜ r .place ≡ 0 ⌝ }
+    ensures { λ r. ⌜ (r .reader .at ≡ 0) × (r .reader .size ≡ 0) × (r .place ≡ 0) ⌝ }
 {
     State {
-        line: text::line_start(),
-        number: 1,
-        begun: false,
+        reader: lines::start(),
         done: false,
         place: 0,
     }
-}
-
-// A line that was begun and not answered is bad, for what it says or for want of a line feed.
-fn finish(s: State, out: &mut [u8]) -> usize
-    requires { ⌜ s .place + 512 ≤ length (now out) ⌝ }
-    ensures { λ r. ⌜ r ≤ length (now (out .entry)) ⌝ }
-{
-    if s.begun {
-        return put_bad(s.number, out, s.place);
-    }
-    s.place
 }
 
 fn main() {
     let mut bytes = io::large_buffer();
     let mut numbers = [0i32; 34];
     let mut out = io::large_buffer();
-    let s = fed_input(start(), &mut bytes, &mut numbers, &mut out);
-    let place = finish(s, &mut out);
-    send(&out, place);
+    let s = answered_lines(start(), &mut bytes, &mut numbers, &mut out);
+    let place = lines::put_end(s.reader, &mut out, s.place);
+    lines::send(&out, place);
 }

@@ -24,7 +24,7 @@ gainOk kp kcor ki = within (pos 1) (pos 32767) kp && within (pos 0) (pos 4096) k
 unfoldable pub gainsOk : Settings → Bool
 gainsOk s = gainOk (s .skp) (s .skcor) (s .ski) && gainOk (s .ckp) (s .ckcor) (s .cki)
 
--- 4096·Ki = Kp·Kcor
+-- 4096·Ki = Kp·Kcor: within p..p is to be p
 unfoldable pub tied : ℤ → ℤ → ℤ → Bool
 tied kp kcor ki = within (kp *ℤ kcor) (kp *ℤ kcor) (pos 4096 *ℤ ki)
 

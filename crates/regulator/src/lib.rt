@@ -20,7 +20,9 @@ pub fn regulate(x: i32, e: i32, g: Gains, limit: i32) -> Regulated
     ensures { λ r. ⌜ r ≡ regulated x e g limit ⌝ }
 {
     let at = x as i64;
-    let u = at + fixed::scaled(e, g.kp, 4096);
+    // 32 bits hold it, and say so to the optimiser
+    let rise = fixed::scaled(e, g.kp, 4096) as i32;
+    let u = at + rise as i64;
     let out = fixed::hold_to(u, limit);
     let over = out as i64 - u;
     let change = fixed::down(fixed::times(e, g.ki) + over * (g.kcor as i64), 4096);

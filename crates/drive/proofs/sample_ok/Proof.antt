@@ -9,7 +9,7 @@ use Rattle.fixed.proofs.HeldLaws.{and-left, and-right}
 use Rattle.fixed.proofs.Reading.{Reads, m32, sized, word, plus, stored, fits}
 use Rattle.record.specs.Record.{inside}
 use Rattle.drive.specs.Calls.{sampleOk}
-use Rattle.drive.proofs.CallLaws.{inside-is, inside-size}
+use Rattle.drive.proofs.CallLaws.{inside-is, inside-abs}
 use Rattle.drive.proofs.sample_ok.Statement.{statement}
 use Rattle.drive.proofs.sample_ok.Tie as tie
 
@@ -28,8 +28,8 @@ phases-ok c = sym (phases-are (c .before)) ∙ c .if1 .taken
 -- where they hold, the sum fits
 sum : (s : tie.Start) → phases s ≡ true → Reads (m32 (s .args .ia) +ℤ m32 (s .args .ib)) (s .args .ia +ℤ s .args .ib) 16382
 sum s e =
-    plus (sized (s .fits .ia) (inside-size 8191 (s .args .ia) (and-left _ _ e)))
-    (sized (s .fits .ib) (inside-size 8191 (s .args .ib) (and-right (inside (pos 8191) (s .args .ia)) _ e)))
+    plus (sized (s .fits .ia) (inside-abs 8191 (s .args .ia) (and-left _ _ e)))
+    (sized (s .fits .ib) (inside-abs 8191 (s .args .ib) (and-right (inside (pos 8191) (s .args .ia)) _ e)))
 
 returns : tie.Need-returns
 unfolding sampleOk

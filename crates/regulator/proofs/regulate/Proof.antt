@@ -2,7 +2,7 @@
 -- Assumes nothing.
 use borrow.Author.Needs.{needs}
 use mathlib.Core.Path.{_∙_, ap, ap₂}
-use lib.IntN.{ℤ, negℤ, _+ℤ_, _-ℤ_, _*ℤ_}
+use lib.IntN.{ℤ, pos, negℤ, _+ℤ_, _-ℤ_, _*ℤ_}
 use mir.Syntax.{w32, w64}
 use Rattle.fixed.specs.Fixed.{down, held}
 use Rattle.fixed.proofs.Equal.{ap₃}
@@ -25,11 +25,19 @@ next-at s = nextOf (s .args .x) (s .args .e) (s .args .g) (s .args .limit)
 x-reads : (s : tie.Start) → Reads (m64 (m32 (s .args .x))) (s .args .x) 8191
 x-reads s = stored w64 (sized (s .fits .x) (s .pre .x-size)) tt
 
-u-reads : (c : tie.After-scaled) → Reads (m64 (m32 (c .before .before .args .x)) +ℤ m64 (c .scaled .result)) (sum-at (c .before .before)) 270320
-unfolding sumOf
-u-reads c =
+-- e·Kp/4096 down
+rise-reads : (c : tie.After-scaled) → Reads (m64 (c .scaled .result)) (down (c .before .before .args .e *ℤ c .before .before .args .g .kp) (pos 4096)) 262129
+rise-reads c =
     let s = c .before .before in
-    plus (x-reads s) (stored w64 (lowered 4096 tt (c .scaled .ensures) (times (sized (s .fits .e) (s .pre .e-size)) (local w32 {x = s .args .g .kp} (s .pre .kp-size) tt))) tt)
+    stored w64 (lowered 4096 tt (c .scaled .ensures) (times (sized (s .fits .e) (s .pre .e-size)) (local w32 {x = s .args .g .kp} (s .pre .kp-size) tt))) tt
+
+-- the code's u
+abbrev sum-of : tie.After-scaled → ℤ
+sum-of c = m64 (m32 (c .before .before .args .x)) +ℤ m64 (m32 (m64 (c .scaled .result)))
+
+u-reads : (c : tie.After-scaled) → Reads (sum-of c) (sum-at (c .before .before)) 270320
+unfolding sumOf
+u-reads c = plus (x-reads (c .before .before)) (stored w64 (stored w32 (rise-reads c) tt) tt)
 
 out-reads : (c : tie.After-hold-to) → Reads (c .hold-to .result) (out-at (c .before .before .before)) 8191
 unfolding outOf
@@ -40,7 +48,7 @@ out-reads c =
 
 -- the code's out − u
 abbrev over : tie.After-hold-to → ℤ
-over c = m64 (m32 (c .hold-to .result)) -ℤ m64 (m64 (m32 (c .before .before .before .args .x)) +ℤ m64 (c .before .scaled .result))
+over c = m64 (m32 (c .hold-to .result)) -ℤ m64 (sum-of (c .before))
 
 over-reads : (c : tie.After-hold-to) → Reads (over c) (out-at (c .before .before .before) -ℤ sum-at (c .before .before .before)) 278511
 over-reads c = minus (stored w64 (stored w32 (out-reads c) tt) tt) (stored w64 (u-reads (c .before)) tt)
@@ -75,6 +83,12 @@ cast-at c = fits (sized (c .fits .x) (c .pre .x-size)) tt
 scaled-requires : tie.Need-scaled-requires
 scaled-requires c κs = search needs
 
+cast-rise : tie.Need-cast-rise
+cast-rise c = fits (rise-reads c) tt
+
+cast-u : tie.Need-cast-u
+cast-u c = fits (stored w32 (rise-reads c) tt) tt
+
 add-u : tie.Need-add-u
 add-u c = fits (u-reads c) tt
 
@@ -102,13 +116,13 @@ add-down c = fits (sum-reads c) tt
 down-requires : tie.Need-down-requires
 down-requires c κs = search needs
 
-add-t10 : tie.Need-add-t10
-add-t10 c = fits (next-reads c) tt
+add-t11 : tie.Need-add-t11
+add-t11 c = fits (next-reads c) tt
 
-cast-t14 : tie.Need-cast-t14
-cast-t14 c = fits (stored w64 (next-reads c) tt) tt
+cast-t15 : tie.Need-cast-t15
+cast-t15 c = fits (stored w64 (next-reads c) tt) tt
 
 pub regulate-spec : {M : Type 1} → statement M
 regulate-spec =
     tie.close
-    (tie.spec cast-at scaled-requires add-u hold-to-requires cast-over sub-over times-requires cast-down mul-down add-down down-requires add-t10 cast-t14 returns)
+    (tie.spec cast-at scaled-requires cast-rise cast-u add-u hold-to-requires cast-over sub-over times-requires cast-down mul-down add-down down-requires add-t11 cast-t15 returns)

@@ -1,16 +1,17 @@
--- `probe::fed_input` is safe and ends: the slices keep their lengths, so there is room for an answer at every read. The measure is how many
--- turns are left.
+-- `probe::answered_lines` is safe and ends: the slices keep their lengths, so there is room for an answer at every line. The measure is how
+-- many turns are left.
 -- Assumes nothing.
 use mathlib.Core.Path.{_≡_}
 use Prim.Native.Nat.{_+_, _≤_}
 use native.Mathlib.Omega.{arith}
 use lib.ListN.{length}
-use Rattle.probe.proofs.fed_input.Statement.{statement}
-use Rattle.probe.proofs.fed_input.Tie as tie
+use Rattle.lines.specs.Chunk.{Inside}
+use Rattle.probe.proofs.answered_lines.Statement.{statement}
+use Rattle.probe.proofs.answered_lines.Tie as tie
 
 abbrev Inv-loop : tie.InvT-loop
 Inv-loop bytes₀ numbers₀ out₀ n₀ turns₀ bytes numbers out n turns =
-    (length bytes ≡ length bytes₀) × (length numbers ≡ length numbers₀) × (length out ≡ length out₀) × (34 ≤ length numbers) × (n .place + 512 ≤ length out)
+    (length bytes ≡ length bytes₀) × (length numbers ≡ length numbers₀) × (length out ≡ length out₀) × Inside (n .reader) bytes × (34 ≤ length numbers) × (n .place + 512 ≤ length out)
 
 abbrev μ-loop : tie.MeasureT-loop
 μ-loop bytes₀ numbers₀ out₀ n₀ turns₀ bytes numbers out n turns = turns
@@ -30,8 +31,8 @@ loop-again c = omega arith
 loop-less : tie.Need-loop-less Inv-loop μ-loop
 loop-less c = omega arith
 
-fed-some-requires : tie.Need-fed-some-requires Inv-loop μ-loop
-fed-some-requires c κs = omega arith
+answered-line-requires : tie.Need-answered-line-requires Inv-loop μ-loop
+answered-line-requires c κs = omega arith
 
 sub-turns : tie.Need-sub-turns Inv-loop μ-loop
 sub-turns c = omega arith
@@ -54,14 +55,14 @@ same-length-5 c = omega arith
 same-length-6 : tie.Need-same-length-6 Inv-loop μ-loop
 same-length-6 c = omega arith
 
-pub fed-input-spec : {M : Type 1} → statement M
-fed-input-spec =
+pub answered-lines-spec : {M : Type 1} → statement M
+answered-lines-spec =
     tie.close
     (tie.spec
     Inv-loop
     μ-loop
     loop-holds
-    fed-some-requires
+    answered-line-requires
     sub-turns
     loop-less
     loop-again

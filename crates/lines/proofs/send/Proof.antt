@@ -1,11 +1,11 @@
--- `probe::send` is safe: so many bytes are that many.
+-- `lines::send` is safe: so many bytes are that many.
 -- Assumes nothing.
 use borrow.Author.Needs.{needs}
 use mathlib.Core.Path.{sym}
 use denote.Ref.{now}
 use lib.Seq.{length-take-le}
-use Rattle.probe.proofs.send.Statement.{statement}
-use Rattle.probe.proofs.send.Tie as tie
+use Rattle.lines.proofs.send.Statement.{statement}
+use Rattle.lines.proofs.send.Tie as tie
 
 returns : tie.Need-returns
 returns c = search needs

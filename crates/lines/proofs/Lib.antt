@@ -1,0 +1,3 @@
+pub mod ChunkLaws
+pub mod Meaning
+pub mod TextLaws

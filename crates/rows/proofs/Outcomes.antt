@@ -1,0 +1,60 @@
+-- What a run answers and leaves, case by case: 14, 9, and the rows; and when each is so.
+-- Assumes nothing.
+use mathlib.Core.Path.{_≡_, refl, sym}
+use mathlib.Core.Bool.{Bool, true, false, not, cond}
+use mathlib.Core.List.{List, _++_}
+use Prim.Native.Nat.{ℕ, _*_, _/_, _%_, _≤_}
+use native.Mathlib.Omega.{arith}
+use borrow.Author.Tests.{le-leb, lt-leb, leb-true, leb-false}
+use lib.Dec.{eqb, leb}
+use lib.IntN.{ℤ, pos}
+use lib.ListN.{length, drop}
+use Rattle.fixed.proofs.HeldLaws.{and-right}
+use Rattle.record.specs.declared.Settings.{Settings}
+use Rattle.record.specs.declared.Drive.{Drive}
+use Rattle.record.specs.Record.{accepted, sound, broken, refusal}
+use Rattle.drive.specs.declared.Made.the-variants.{Ready, Refused}
+use Rattle.drive.specs.Calls.{made, fresh}
+use Rattle.rows.specs.Rows.{none, ranOf, writtenOf, rowsIn, rowsFit, runOf, outOf}
+
+-- ════ 14
+-- settings that make no drive are not accepted
+made-refused : (s : Settings) (n : ℤ) → made s ≡ Refused n → accepted s ≡ false
+unfolding made
+made-refused s n = by (accepted s)
+  where
+    by : (b : Bool) → cond b (Ready (fresh s)) (Refused (refusal s)) ≡ Refused n → b ≡ false
+    by true e = cc
+    by false e = refl
+
+-- and a record with such settings is broken
+pub refused-broken : (d : Drive) (n : ℤ) → made (d .settings) ≡ Refused n → broken d ≡ true
+unfolding broken sound
+refused-broken d n e = rw (made-refused (d .settings) n e) refl
+
+-- ════ 9
+-- n rows against the output, counted in fours
+pub fours : (n m : ℕ) → leb n (m / 4) ≡ leb (4 * n) m
+fours n m = by (leb n (m / 4)) refl
+  where
+    by : (b : Bool) → leb n (m / 4) ≡ b → b ≡ leb (4 * n) m
+    by true e = sym (le-leb (4 * n) m (omega (arith, leb-true n (m / 4) e)))
+    by false e = sym (lt-leb (4 * n) m (omega (arith, leb-false n (m / 4) e)))
+
+pub room : (samples out : ℕ) → rowsFit samples out ≡ true → 4 * (samples / 3) ≤ out
+unfolding rowsFit
+room samples out e = leb-true (4 * (samples / 3)) out (and-right (eqb (samples % 3) 0) _ e)
+
+-- ════ the three answers
+module _ (d : Drive) (samples out : List ℤ) where
+  pub run-14 : broken d ≡ true → (runOf d samples out ≡ none d (pos 14)) × (outOf d samples out ≡ out)
+  unfolding runOf outOf
+  run-14 b = (simp b, simp b)
+
+  pub run-9 : broken d ≡ false → rowsFit (length samples) (length out) ≡ false → (runOf d samples out ≡ none d (pos 9)) × (outOf d samples out ≡ out)
+  unfolding runOf outOf
+  run-9 b f = (simp (b, f), simp (b, f))
+
+  pub run-0 : broken d ≡ false → rowsFit (length samples) (length out) ≡ true → (runOf d samples out ≡ ranOf d samples (rowsIn samples)) × (outOf d samples out ≡ writtenOf d samples (rowsIn samples) ++ drop (4 * rowsIn samples) out)
+  unfolding runOf outOf
+  run-0 b f = (simp (b, f), simp (b, f))

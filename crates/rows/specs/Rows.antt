@@ -1,0 +1,79 @@
+-- The run (document 01, "Rows and the program"): row by row, each row as one step gives it.
+use Prim.Native.Nat.{ℕ, zero, suc, _+_, _*_, _/_, _%_}
+use mathlib.Core.Bool.{Bool, cond, _&&_}
+use mathlib.Core.List.{List, [], _∷_, _++_}
+use lib.ListN.{length, getD, drop}
+use lib.Dec.{leb, eqb}
+use lib.IntN.{ℤ, pos}
+use Rattle.fixed.specs.Fixed.{within}
+use Rattle.record.specs.declared.Drive.{Drive}
+use Rattle.record.specs.Record.{broken}
+use Rattle.drive.specs.declared.Stepped.{Stepped}
+use Rattle.drive.specs.Calls.{stepped}
+use Rattle.rows.specs.declared.Ran.{Ran}
+
+-- ════ one row
+-- row i, (ia, ib, count), is one step
+unfoldable pub rowStepped : Drive → List ℤ → ℕ → Stepped
+rowStepped d samples i = stepped d (getD samples (3 * i) (pos 0)) (getD samples (3 * i + 1) (pos 0)) (getD samples (3 * i + 2) (pos 0))
+
+-- it writes three compares and the number
+unfoldable pub four : Stepped → List ℤ
+four s = s .pulses .a ∷ s .pulses .b ∷ s .pulses .c ∷ s .number ∷ []
+
+-- an accepted step has number 0
+unfoldable pub isAccepted : Stepped → Bool
+isAccepted s = within (pos 0) (pos 0) (s .number)
+
+-- the clipped ones among them
+unfoldable pub isClipped : Stepped → Bool
+isClipped s = isAccepted s && s .pulses .clipped
+
+abbrev pub one : Bool → ℕ
+one b = cond b 1 0
+
+-- ════ the rows, one after the other
+-- the run's own number, and no row taken
+unfoldable pub none : Drive → ℤ → Ran
+none d number = record { drive = d; number = number; accepted = 0; clipped = 0 }
+
+-- one row more: the drive after its step, and the counts
+unfoldable pub afterRow : Ran → Stepped → Ran
+afterRow r s = record {
+  drive = s .drive;
+  number = r .number;
+  accepted = r .accepted + one (isAccepted s);
+  clipped = r .clipped + one (isClipped s);
+}
+
+-- what stands after the first n rows
+unfoldable pub ranOf : Drive → List ℤ → ℕ → Ran
+ranOf d samples zero = none d (pos 0)
+ranOf d samples (suc i) = afterRow (ranOf d samples i) (rowStepped (ranOf d samples i .drive) samples i)
+
+-- the numbers that they write
+unfoldable pub writtenOf : Drive → List ℤ → ℕ → List ℤ
+writtenOf d samples zero = []
+writtenOf d samples (suc i) = writtenOf d samples i ++ four (rowStepped (ranOf d samples i .drive) samples i)
+
+-- ════ the run
+abbrev pub rowsIn : List ℤ → ℕ
+rowsIn samples = length samples / 3
+
+-- so many samples are in threes, and so much output is not shorter than four numbers a row
+unfoldable pub rowsFit : ℕ → ℕ → Bool
+rowsFit samples out = eqb (samples % 3) 0 && leb (4 * (samples / 3)) out
+
+-- 14 before 9; else the run's own number is 0
+unfoldable pub runOf : Drive → List ℤ → List ℤ → Ran
+runOf d samples out =
+    cond (broken d) (none d (pos 14))
+    (cond (rowsFit (length samples) (length out)) (ranOf d samples (rowsIn samples))
+    (none d (pos 9)))
+
+-- the output after it: a run that is refused writes nothing; numbers past the rows' output stay
+unfoldable pub outOf : Drive → List ℤ → List ℤ → List ℤ
+outOf d samples out =
+    cond (broken d) out
+    (cond (rowsFit (length samples) (length out)) (writtenOf d samples (rowsIn samples) ++ drop (4 * rowsIn samples) out)
+    out)
