@@ -1,0 +1,221 @@
+-- Demand 3. Over any history each of the three integrals is within its regulator's limits. And in every accepted step, of whatever drive:
+-- whenever a regulator runs, its integral ends between the old value and the output issued; its output leaves a limit when the error
+-- turns; the compares lie within 0..T; unclipped, the on-times differ by what the voltage asks, but for less than two counts.
+-- Assumes nothing.
+use mathlib.Core.Path.{_≡_, refl, sym, _∙_, ap, ap₂, subst}
+use mathlib.Core.Bool.{Bool, true, false, cond}
+use lib.IntN.{ℤ, pos, negℤ, _+ℤ_, _-ℤ_, _*ℤ_}
+use lib.Signed.{_≤ℤ_, _<ℤ_}
+use Rattle.fixed.proofs.Between.{Between}
+use Rattle.fixed.proofs.HeldLaws.{within-lo, within-hi}
+use Rattle.sine.specs.Sine.{sineAt, cosineAt}
+use Rattle.regulator.specs.Regulator.{regulated, Lawful}
+use Rattle.regulator.proofs.Fact as fact
+use Rattle.fixed.proofs.Equal.{ap₃}
+use Rattle.frames.specs.declared.Stator.{Stator}
+use Rattle.frames.specs.Frames.{inversePark}
+use Rattle.modulation.specs.declared.Pulses.{Pulses}
+use Rattle.shaft.specs.Shaft.{thirtieth, counted, measured}
+use Rattle.modulation.specs.Modulation.{modulated, A, B}
+use Rattle.modulation.proofs.Compares.{InPeriod, Near, on, compares-within, on-times}
+use Rattle.record.specs.declared.Drive.{Drive}
+use Rattle.record.proofs.Ranges.{Inside, Sound, not-broken}
+use Rattle.drive.specs.Step.{speedGains, currentGains, speedRegulated, currentRegulated, rampedBy, withTorque, withSpeed, withShaft, withCommand, commanded, turned, dRegulated, qRegulated, voltageOf, voltageFor, withField, outcome, pulsed, driven, advanced}
+use Rattle.drive.specs.Calls.{sampleOk, stepped}
+use Rattle.drive.proofs.Sizes as size
+use Rattle.drive.proofs.Kept as kept
+use Rattle.promises.specs.Histories.{History}
+use Rattle.promises.specs.Words.{seen, issued, dError, qError, next, speedError}
+use Rattle.promises.proofs.Demand1 as table
+use Rattle.promises.proofs.Demand2.{reached-sound}
+
+-- ════ any history: the integrals within their limits
+pub integrals-within : (d : Drive) → History d → Inside (d .settings .q) (d .integrals .speed) × Inside (d .settings .v) (d .integrals .d) × Inside (d .settings .v) (d .integrals .q)
+integrals-within d r = let h = reached-sound d r .integrals in (h .speed, h .d, h .q)
+
+-- ════ rules 1 and 2 leave settings and current integrals as they were
+turned-settings : (d : Drive) (count : ℤ) → turned d count .settings ≡ d .settings
+unfolding turned commanded withCommand withShaft
+turned-settings d count = by (thirtieth (d .shaft))
+  where
+    by : (b : Bool) → cond b (commanded d (measured (counted (d .shaft) count) (d .settings .kn))) (withShaft d (counted (d .shaft) count)) .settings ≡ d .settings
+    by true = refl
+    by false = refl
+
+turned-d : (d : Drive) (count : ℤ) → turned d count .integrals .d ≡ d .integrals .d
+unfolding turned commanded withCommand withSpeed withShaft
+turned-d d count = by (thirtieth (d .shaft))
+  where
+    by : (b : Bool) → cond b (commanded d (measured (counted (d .shaft) count) (d .settings .kn))) (withShaft d (counted (d .shaft) count)) .integrals .d ≡ d .integrals .d
+    by true = refl
+    by false = refl
+
+turned-q : (d : Drive) (count : ℤ) → turned d count .integrals .q ≡ d .integrals .q
+unfolding turned commanded withCommand withSpeed withShaft
+turned-q d count = by (thirtieth (d .shaft))
+  where
+    by : (b : Bool) → cond b (commanded d (measured (counted (d .shaft) count) (d .settings .kn))) (withShaft d (counted (d .shaft) count)) .integrals .q ≡ d .integrals .q
+    by true = refl
+    by false = refl
+
+-- the same numbers under other names
+renamed : {x y z w o : ℤ} → x ≡ y → z ≡ w → Between x w o → Between y z o
+renamed {x} {z = z} {o = o} p q b = subst (λ (k : ℤ). Between k z o) p (subst (λ (k : ℤ). Between x k o) (sym q) b)
+
+-- ════ an accepted step
+module _ (d : Drive) (ia ib count : ℤ) (ok : stepped d ia ib count .number ≡ pos 0) where
+  abbrev new : Drive
+  new = next d ia ib count
+
+  abbrev mid : Drive
+  mid = turned d count
+
+  met : Sound d
+  met = not-broken d .0 (table.step-0 d ia ib count .0 ok .0)
+
+  rules : stepped d ia ib count ≡ advanced d ia ib count
+  rules = let h = table.step-0 d ia ib count .0 ok in table.step-accepted d ia ib count (h .0) (h .1) (h .2)
+
+  mid-sound : Sound mid
+  mid-sound = kept.turned-sound d count met (size.samples→ ia ib count (table.step-0 d ia ib count .0 ok .2) .3)
+
+  new-d : new .integrals .d ≡ dRegulated mid (seen d ia ib) .x
+  unfolding next advanced driven pulsed outcome withField voltageFor voltageOf seen
+  new-d = ap (λ s. s .drive .integrals .d) rules
+
+  new-q : new .integrals .q ≡ qRegulated mid (seen d ia ib) .x
+  unfolding next advanced driven pulsed outcome withField voltageFor voltageOf seen
+  new-q = ap (λ s. s .drive .integrals .q) rules
+
+  -- a current regulator, from the integral x and the error e
+  abbrev out : ℤ → ℤ → ℤ
+  out x e = regulated x e (currentGains (mid .settings)) (mid .settings .v) .out
+
+  current : Lawful (currentGains (mid .settings))
+  current = kept.current-lawful (mid .settings) (mid-sound .settings)
+
+  between : (x e : ℤ) → Between x (regulated x e (currentGains (mid .settings)) (mid .settings .v) .x) (out x e)
+  unfolding regulated
+  between x e = fact.next-between x e (currentGains (mid .settings)) (mid .settings .v) current (size.v-lo mid mid-sound)
+
+  leaves-top : (x e : ℤ) → Inside (mid .settings .v) x → e <ℤ pos 0 → out x e <ℤ d .settings .v
+  unfolding regulated
+  leaves-top x e i h =
+      subst (λ (v : ℤ). out x e <ℤ v) (ap (λ s. s .v) (turned-settings d count))
+      (fact.leaves-top x e (currentGains (mid .settings)) (mid .settings .v) current (size.v-lo mid mid-sound) (within-hi (negℤ (mid .settings .v)) (mid .settings .v) x i) h)
+
+  leaves-bottom : (x e : ℤ) → Inside (mid .settings .v) x → pos 4096 ≤ℤ (e *ℤ d .settings .ckp) → negℤ (d .settings .v) <ℤ out x e
+  unfolding regulated currentGains
+  leaves-bottom x e i h =
+      subst (λ (v : ℤ). negℤ v <ℤ out x e) (ap (λ s. s .v) (turned-settings d count))
+      (fact.leaves-bottom x e (currentGains (mid .settings)) (mid .settings .v) current (size.v-lo mid mid-sound) (within-lo (negℤ (mid .settings .v)) (mid .settings .v) x i)
+      (subst (λ (k : ℤ). pos 4096 ≤ℤ (e *ℤ k)) (ap (λ s. s .ckp) (sym (turned-settings d count))) h))
+
+  -- d and q: between the old integral and the output issued, ends included
+  pub d-between : Between (d .integrals .d) (new .integrals .d) (issued d ia ib count .d)
+  unfolding issued voltageFor voltageOf dRegulated currentRegulated
+  d-between = renamed (turned-d d count) new-d (between (mid .integrals .d) (mid .command .flux -ℤ seen d ia ib .d))
+
+  pub q-between : Between (d .integrals .q) (new .integrals .q) (issued d ia ib count .q)
+  unfolding issued voltageFor voltageOf qRegulated currentRegulated
+  q-between = renamed (turned-q d count) new-q (between (mid .integrals .q) (mid .command .torque -ℤ seen d ia ib .q))
+
+  -- a negative error: the output is below the upper limit; one worth a count: it is above the lower
+  pub d-leaves-top : dError d ia ib count <ℤ pos 0 → issued d ia ib count .d <ℤ d .settings .v
+  unfolding dError issued voltageFor voltageOf dRegulated currentRegulated
+  d-leaves-top e = leaves-top (mid .integrals .d) (dError d ia ib count) (mid-sound .integrals .d) e
+
+  pub d-leaves-bottom : pos 4096 ≤ℤ (dError d ia ib count *ℤ d .settings .ckp) → negℤ (d .settings .v) <ℤ issued d ia ib count .d
+  unfolding dError issued voltageFor voltageOf dRegulated currentRegulated
+  d-leaves-bottom e = leaves-bottom (mid .integrals .d) (dError d ia ib count) (mid-sound .integrals .d) e
+
+  pub q-leaves-top : qError d ia ib count <ℤ pos 0 → issued d ia ib count .q <ℤ d .settings .v
+  unfolding qError issued voltageFor voltageOf qRegulated currentRegulated
+  q-leaves-top e = leaves-top (mid .integrals .q) (qError d ia ib count) (mid-sound .integrals .q) e
+
+  pub q-leaves-bottom : pos 4096 ≤ℤ (qError d ia ib count *ℤ d .settings .ckp) → negℤ (d .settings .v) <ℤ issued d ia ib count .q
+  unfolding qError issued voltageFor voltageOf qRegulated currentRegulated
+  q-leaves-bottom e = leaves-bottom (mid .integrals .q) (qError d ia ib count) (mid-sound .integrals .q) e
+
+  -- the speed regulator, which runs in a tick and gives the torque reference
+  abbrev ticked : Drive
+  ticked = commanded d (measured (counted (d .shaft) count) (d .settings .kn))
+
+  new-command : thirtieth (d .shaft) ≡ true → new .command ≡ ticked .command
+  unfolding next advanced driven pulsed outcome withField turned
+  new-command t = ap (λ s. s .drive .command) rules ∙ ap (λ b. cond b ticked (withShaft d (counted (d .shaft) count)) .command) t
+
+  new-shaft : thirtieth (d .shaft) ≡ true → new .shaft ≡ ticked .shaft
+  unfolding next advanced driven pulsed outcome withField turned
+  new-shaft t = ap (λ s. s .drive .shaft) rules ∙ ap (λ b. cond b ticked (withShaft d (counted (d .shaft) count)) .shaft) t
+
+  new-speed : thirtieth (d .shaft) ≡ true → new .integrals .speed ≡ ticked .integrals .speed
+  unfolding next advanced driven pulsed outcome withField voltageFor voltageOf turned
+  new-speed t = ap (λ s. s .drive .integrals .speed) rules ∙ ap (λ b. cond b ticked (withShaft d (counted (d .shaft) count)) .integrals .speed) t
+
+  speed : Lawful (speedGains (d .settings))
+  speed = kept.speed-lawful (d .settings) (met .settings)
+
+  error-is : thirtieth (d .shaft) ≡ true → speedError d ia ib count ≡ ticked .command .reference -ℤ ticked .shaft .speed
+  unfolding speedError
+  error-is t = ap₂ (λ (r n : ℤ). r -ℤ n) (ap (λ c. c .reference) (new-command t)) (ap (λ s. s .speed) (new-shaft t))
+
+  pub speed-between : thirtieth (d .shaft) ≡ true → Between (d .integrals .speed) (new .integrals .speed) (new .command .torque)
+  unfolding commanded withCommand withTorque withSpeed speedRegulated regulated
+  speed-between t =
+      subst (λ (o : ℤ). Between (d .integrals .speed) (new .integrals .speed) o) (sym (ap (λ c. c .torque) (new-command t)))
+      (renamed refl (new-speed t) (fact.next-between (d .integrals .speed) _ (speedGains (d .settings)) (d .settings .q) speed (size.q-lo d met)))
+
+  pub speed-leaves-top : thirtieth (d .shaft) ≡ true → speedError d ia ib count <ℤ pos 0 → new .command .torque <ℤ d .settings .q
+  unfolding commanded withCommand withTorque withSpeed speedRegulated regulated
+  speed-leaves-top t e =
+      subst (λ (o : ℤ). o <ℤ d .settings .q) (sym (ap (λ c. c .torque) (new-command t)))
+      (fact.leaves-top (d .integrals .speed) _ (speedGains (d .settings)) (d .settings .q) speed (size.q-lo d met) (within-hi (negℤ (d .settings .q)) (d .settings .q) (d .integrals .speed) (met .integrals .speed)) (subst (λ (k : ℤ). k <ℤ pos 0) (error-is t) e))
+
+  pub speed-leaves-bottom : thirtieth (d .shaft) ≡ true → pos 4096 ≤ℤ (speedError d ia ib count *ℤ d .settings .skp) → negℤ (d .settings .q) <ℤ new .command .torque
+  unfolding commanded withCommand withTorque withSpeed speedRegulated regulated speedGains
+  speed-leaves-bottom t e =
+      subst (λ (o : ℤ). negℤ (d .settings .q) <ℤ o) (sym (ap (λ c. c .torque) (new-command t)))
+      (fact.leaves-bottom (d .integrals .speed) _ (speedGains (d .settings)) (d .settings .q) speed (size.q-lo d met) (within-lo (negℤ (d .settings .q)) (d .settings .q) (d .integrals .speed) (met .integrals .speed)) (subst (λ (k : ℤ). pos 4096 ≤ℤ (k *ℤ d .settings .skp)) (error-is t) e))
+
+  -- between two ticks it does not run: integral and torque reference stay
+  pub speed-stays : thirtieth (d .shaft) ≡ false → (new .integrals .speed ≡ d .integrals .speed) × (new .command .torque ≡ d .command .torque)
+  unfolding next advanced driven pulsed outcome withField voltageFor voltageOf turned withShaft
+  speed-stays t = (
+    ap (λ s. s .drive .integrals .speed) rules ∙ ap (λ b. cond b ticked (withShaft d (counted (d .shaft) count)) .integrals .speed) t,
+    ap (λ s. s .drive .command .torque) rules ∙ ap (λ b. cond b ticked (withShaft d (counted (d .shaft) count)) .command .torque) t,
+  )
+
+  -- ════ the pulses
+  abbrev pulses : Pulses
+  pulses = stepped d ia ib count .pulses
+
+  abbrev volts : Stator
+  volts = stepped d ia ib count .voltage
+
+  -- the voltage issued, in the stator's frame, is modulated
+  pub voltage-is : volts ≡ inversePark (issued d ia ib count) (sineAt (d .field .angle)) (cosineAt (d .field .angle))
+  unfolding advanced driven pulsed outcome issued seen
+  voltage-is = ap (λ s. s .voltage) rules
+
+  pulses-are : pulses ≡ modulated (d .settings .t) (volts .alpha) (volts .beta)
+  unfolding advanced driven pulsed outcome withField
+  pulses-are =
+      ap (λ s. s .pulses) rules
+      ∙ ap₃ modulated (ap (λ s. s .t) (turned-settings d count)) (ap (λ s. s .voltage .alpha) (sym rules)) (ap (λ s. s .voltage .beta) (sym rules))
+
+  pub compares-in-period : InPeriod (d .settings .t) (pulses .a) × InPeriod (d .settings .t) (pulses .b) × InPeriod (d .settings .t) (pulses .c)
+  compares-in-period =
+      subst (λ (p : Pulses). InPeriod (d .settings .t) (p .a) × InPeriod (d .settings .t) (p .b) × InPeriod (d .settings .t) (p .c)) (sym pulses-are)
+      (compares-within (d .settings .t) (volts .alpha) (volts .beta) (size.period d met .up))
+
+  -- the on-times differ by what the voltage asks, but for less than 2 counts
+  abbrev Asked : Pulses → Type 0
+  Asked p =
+      Near (d .settings .t) (on (d .settings .t) (p .a) -ℤ on (d .settings .t) (p .b)) (A (volts .alpha) -ℤ B (volts .beta))
+      × Near (d .settings .t) (on (d .settings .t) (p .b) -ℤ on (d .settings .t) (p .c)) (pos 2 *ℤ B (volts .beta))
+      × Near (d .settings .t) (on (d .settings .t) (p .a) -ℤ on (d .settings .t) (p .c)) (A (volts .alpha) +ℤ B (volts .beta))
+
+  pub on-times-near : pulses .clipped ≡ false → Asked pulses
+  on-times-near e =
+      subst Asked (sym pulses-are) (on-times (d .settings .t) (volts .alpha) (volts .beta) (ap (λ p. p .clipped) (sym pulses-are) ∙ e))

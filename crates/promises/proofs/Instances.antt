@@ -1,0 +1,124 @@
+-- No promise is empty: each hypothesis that a theorem of this crate makes is met, by the bench set from fresh or by a drive with it.
+-- Assumes nothing.
+use mathlib.Core.Path.{_≡_, refl, _∙_}
+use mathlib.Core.Bool.{true, false}
+use mathlib.Core.List.{List, [], _∷_}
+use lib.Dec.{lit<}
+use lib.IntN.{ℤ, pos, negsuc, _*ℤ_}
+use lib.Signed.{_<ℤ_, _≤ℤ_, ltZ-yes, leZ-yes}
+use Rattle.fixed.specs.Fixed.{down, held, modulo, within}
+use Rattle.sine.specs.Sine.{rootFrom, root, halved, cos2, cos1, sin1, turn, turned as turned-table, rising, half, sineEntry, indexOf, sineIn, cosineIn, sineAt, cosineAt}
+use Rattle.sine.proofs.Rule.{entry-at}
+use Rattle.regulator.specs.Regulator.{sumOf, outOf, nextOf, regulated}
+use Rattle.frames.specs.Frames.{clarke, park, inversePark}
+use Rattle.modulation.specs.Modulation.{entriesOf, bit, numberOf, rowAt, rowOf, timeOf, clippedTimes, timesOf, compareAt, placed, modulated}
+use Rattle.rows.specs.Rows.{rowsFit}
+use Rattle.shaft.specs.Shaft.{signed, movement, moved, counted, thirtieth, speedOf, measured, rampedTo, sizeOf, weakened}
+use Rattle.record.specs.Record.{periodOk, gainOk, gainsOk, tied, gainsTied, limitsOk, restOk, refusal, accepted, inside, shaftOk, commandOk, fieldOk, integralsOk, sound, broken}
+use Rattle.record.proofs.Ranges.{Sound, sound→}
+use Rattle.drive.specs.Step.{speedGains, currentGains, speedRegulated, currentRegulated, rampedBy, withTorque, withSpeed, withCommand, commanded, turned, currents, fieldAfter, dRegulated, qRegulated, voltageOf, voltageFor, withField, advanced, driven, pulsed, outcome}
+use Rattle.drive.specs.Calls.{fresh, sampleOk, tripped, taken, stepped}
+use Rattle.promises.specs.Histories.{History, afterAll, Sample, stepOn, AllAccepted}
+use Rattle.promises.specs.Words.{seen, dError, qError, next, speedError}
+use Rattle.promises.specs.Bench.{bench, waiting, spoiled, still}
+
+pub bench-accepted : accepted bench ≡ true
+unfolding bench accepted refusal periodOk gainsOk gainOk gainsTied tied limitsOk restOk
+bench-accepted = refl
+
+-- a history with no call yet
+pub fresh-history : History (fresh bench)
+unfolding afterAll
+fresh-history = record { settings = bench; are-accepted = bench-accepted; calls = []; leads = refl }
+
+pub waiting-sound : Sound (waiting (pos 0))
+unfolding waiting bench accepted refusal periodOk gainsOk gainOk gainsTied tied limitsOk restOk sound shaftOk commandOk fieldOk integralsOk inside
+waiting-sound = sound→ (waiting (pos 0)) refl
+
+-- an accepted step, which is a tick
+pub waiting-steps : stepOn (waiting (pos 0)) still .number ≡ pos 0
+unfolding waiting bench accepted refusal periodOk gainsOk gainOk gainsTied tied limitsOk restOk sound broken shaftOk commandOk fieldOk integralsOk inside stepped taken sampleOk advanced driven pulsed outcome
+waiting-steps = refl
+
+pub waiting-ticks : thirtieth (waiting (pos 0) .shaft) ≡ true
+unfolding waiting thirtieth
+waiting-ticks = refl
+
+-- between two ticks
+pub fresh-waits : thirtieth (fresh bench .shaft) ≡ false
+unfolding fresh thirtieth
+fresh-waits = refl
+
+-- records that are refused: broken, tripped; and samples and a target out of range
+pub spoiled-broken : broken spoiled ≡ true
+unfolding spoiled waiting bench accepted refusal periodOk gainsOk gainOk gainsTied tied limitsOk restOk sound broken shaftOk commandOk fieldOk integralsOk inside
+spoiled-broken = refl
+
+pub tripped-sound : (broken (tripped (waiting (pos 0))) ≡ false) × (tripped (waiting (pos 0)) .tripped ≡ true)
+unfolding tripped waiting bench accepted refusal periodOk gainsOk gainOk gainsTied tied limitsOk restOk sound broken shaftOk commandOk fieldOk integralsOk inside
+tripped-sound = (refl, refl)
+
+pub samples-refused : sampleOk (pos 8192) (pos 0) (pos 0) ≡ false
+unfolding sampleOk inside
+samples-refused = refl
+
+pub target-refused : inside (pos 8191) (pos 8192) ≡ false
+unfolding inside
+target-refused = refl
+
+-- rows that fit, and rows that do not
+pub rows-fit : (rowsFit 3 4 ≡ true) × (rowsFit 3 3 ≡ false) × (rowsFit 4 4 ≡ false)
+unfolding rowsFit
+rows-fit = (refl, refl, refl)
+
+-- steps that are all accepted
+pub waiting-accepts : AllAccepted (waiting (pos 0)) (still ∷ [])
+unfolding AllAccepted
+waiting-accepts = (waiting-steps, tt)
+
+-- errors of either sign. At angle 0 the sine is 0 and the cosine 4096, so that d is ia; ib is chosen so that q is 0, or as large as it may be
+entry-0 : sineEntry 0 ≡ pos 0
+unfolding sineEntry half rising turned-table down
+entry-0 = refl
+
+entry-64 : sineEntry 64 ≡ pos 4096
+unfolding sineEntry half rising turned-table turn cos1 sin1 cos2 halved root rootFrom down
+entry-64 = refl
+
+sine-at-0 : sineAt (pos 0) ≡ pos 0
+unfolding sineAt sineIn indexOf down
+sine-at-0 = entry-at 0 (lit< tt) ∙ entry-0
+
+cosine-at-0 : cosineAt (pos 0) ≡ pos 4096
+unfolding cosineAt cosineIn indexOf down
+cosine-at-0 = entry-at 64 (lit< tt) ∙ entry-64
+
+pub d-negative : dError (waiting (pos 0)) (pos 3000) (pos 0) (pos 7) <ℤ pos 0
+unfolding dError seen turned commanded withCommand withTorque rampedBy thirtieth counted measured moved movement signed modulo down speedOf held weakened sizeOf currents clarke park waiting bench
+d-negative = rw (cosine-at-0, sine-at-0) (ltZ-yes tt)
+
+pub d-worth-a-count : pos 4096 ≤ℤ (dError (waiting (pos 0)) (pos 0) (pos 0) (pos 7) *ℤ waiting (pos 0) .settings .ckp)
+unfolding dError seen turned commanded withCommand withTorque rampedBy thirtieth counted measured moved movement signed modulo down speedOf held weakened sizeOf currents clarke park waiting bench
+d-worth-a-count = rw (cosine-at-0, sine-at-0) (leZ-yes tt)
+
+pub q-negative : qError (waiting (pos 0)) (pos 0) (pos 8191) (pos 7) <ℤ pos 0
+unfolding qError seen turned commanded withCommand withTorque rampedBy speedRegulated speedGains regulated outOf nextOf sumOf rampedTo thirtieth counted measured moved movement signed modulo down speedOf held weakened sizeOf currents clarke park waiting bench
+q-negative = rw (cosine-at-0, sine-at-0) (ltZ-yes tt)
+
+pub q-worth-a-count : pos 4096 ≤ℤ (qError (waiting (pos 0)) (pos 0) (pos 0) (pos 7) *ℤ waiting (pos 0) .settings .ckp)
+unfolding qError seen turned commanded withCommand withTorque rampedBy speedRegulated speedGains regulated outOf nextOf sumOf rampedTo thirtieth counted measured moved movement signed modulo down speedOf held weakened sizeOf currents clarke park waiting bench
+q-worth-a-count = rw (cosine-at-0, sine-at-0) (leZ-yes tt)
+
+-- the speed error, of a shaft that turns and of one that stands
+pub speed-negative : speedError (waiting (pos 16384)) (pos 0) (pos 0) (pos 7) <ℤ pos 0
+unfolding speedError next stepped taken broken sound accepted refusal periodOk gainsOk gainOk gainsTied tied limitsOk restOk shaftOk commandOk fieldOk integralsOk inside sampleOk advanced driven pulsed outcome withField turned commanded withCommand withTorque rampedBy rampedTo thirtieth counted measured moved movement signed modulo down speedOf held waiting bench
+speed-negative = ltZ-yes tt
+
+pub speed-worth-a-count : pos 4096 ≤ℤ (speedError (waiting (pos 0)) (pos 0) (pos 0) (pos 7) *ℤ waiting (pos 0) .settings .skp)
+unfolding speedError next stepped taken broken sound accepted refusal periodOk gainsOk gainOk gainsTied tied limitsOk restOk shaftOk commandOk fieldOk integralsOk inside sampleOk advanced driven pulsed outcome withField turned commanded withCommand withTorque rampedBy rampedTo thirtieth counted measured moved movement signed modulo down speedOf held waiting bench
+speed-worth-a-count = leZ-yes tt
+
+-- a step that is not clipped
+pub unclipped : stepOn (waiting (pos 0)) still .pulses .clipped ≡ false
+unfolding stepped taken sampleOk advanced driven pulsed outcome withField fieldAfter voltageFor voltageOf dRegulated qRegulated currentRegulated currentGains turned commanded withCommand withTorque withSpeed rampedBy speedRegulated speedGains regulated outOf nextOf sumOf rampedTo thirtieth counted measured moved movement signed modulo down speedOf held weakened sizeOf currents clarke park inversePark modulated placed compareAt timesOf clippedTimes timeOf rowOf rowAt numberOf bit entriesOf waiting bench accepted refusal periodOk gainsOk gainOk gainsTied tied limitsOk restOk sound broken shaftOk commandOk fieldOk integralsOk inside
+unclipped = rw (cosine-at-0, sine-at-0) refl

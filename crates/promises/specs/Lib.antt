@@ -1,0 +1,4 @@
+pub mod Histories
+pub mod Words
+pub mod Starred
+pub mod Bench

@@ -1,0 +1,53 @@
+-- 01's starred cases as a list: what the definitions give, beside what 01 writes. Eleven cases; the flux case has two halves.
+use mathlib.Core.Path.{_≡_}
+use mathlib.Core.List.{List, [], _∷_}
+use lib.IntN.{ℤ, pos, negsuc}
+use Rattle.regulator.specs.declared.Gains.{Gains}
+use Rattle.regulator.specs.declared.Regulated.{Regulated}
+use Rattle.regulator.specs.Regulator.{regulated}
+use Rattle.frames.specs.Frames.{clarke}
+use Rattle.field.specs.Field.{fluxNext, angleNext}
+use Rattle.modulation.specs.declared.Pulses.{Pulses}
+use Rattle.modulation.specs.Modulation.{modulated}
+
+pub record Case : Type 0 where
+  pub got : List ℤ
+  pub wanted : List ℤ
+
+infix 2 _gives_
+abbrev pub _gives_ : List ℤ → List ℤ → Case
+got gives wanted = record { got = got; wanted = wanted }
+
+-- the words of an answer, as 01 lists them
+abbrev pub number : ℤ → List ℤ
+number z = z ∷ []
+
+abbrev pub outAndIntegral : Regulated → List ℤ
+outAndIntegral r = r .out ∷ r .x ∷ []
+
+abbrev pub compares : Pulses → List ℤ
+compares p = p .a ∷ p .b ∷ p .c ∷ []
+
+-- the bench set's current gains
+abbrev pub current : Gains
+current = record { kp = pos 4096; kcor = pos 256; ki = pos 256 }
+
+unfoldable pub cases : List Case
+cases =
+    (number (clarke (pos 0) (pos 4096) .beta) gives number (pos 4730))
+    ∷ (number (clarke (pos 0) (negsuc 0) .beta) gives number (negsuc 1))
+    ∷ (outAndIntegral (regulated (pos 0) (pos 100) current (pos 4096)) gives (pos 100 ∷ pos 6 ∷ []))
+    ∷ (outAndIntegral (regulated (pos 0) (negsuc 99) current (pos 4096)) gives (negsuc 99 ∷ negsuc 6 ∷ []))
+    ∷ (outAndIntegral (regulated (pos 0) (pos 8191) current (pos 4096)) gives (pos 4096 ∷ pos 256 ∷ []))
+    ∷ ((fluxNext (pos 75) (pos 2404) (pos 2458) ∷ fluxNext (pos 75) (pos 2403) (pos 2458) ∷ []) gives (pos 2404 ∷ pos 2404 ∷ []))
+    ∷ (number (angleNext (pos 100) (pos 0) (negsuc 0)) gives number (pos 65535))
+    ∷ (compares (modulated (pos 600) (pos 0) (pos 0)) gives (pos 300 ∷ pos 300 ∷ pos 300 ∷ []))
+    ∷ (compares (modulated (pos 600) (pos 4096) (pos 0)) gives (pos 40 ∷ pos 559 ∷ pos 559 ∷ []))
+    ∷ (compares (modulated (pos 600) (pos 0) (pos 4096)) gives (pos 300 ∷ pos 0 ∷ pos 600 ∷ []))
+    ∷ (compares (modulated (pos 600) (pos 2048) (pos 2048)) gives (pos 95 ∷ pos 204 ∷ pos 504 ∷ []))
+    ∷ []
+
+-- every case of a list holds
+unfoldable pub AllHold : List Case → Type 0
+AllHold [] = Unit
+AllHold (c ∷ cs) = (c .got ≡ c .wanted) × AllHold cs
