@@ -4,6 +4,7 @@ ghost use Prim.Native.Nat.{_≤_};
 ghost use lib.IntN.{natAbs, _+ℤ_};
 ghost use Rattle.field.specs.Field.{fluxNext, slip as slipOf, angleNext, followed as followedOf, Sized};
 
+#[repr(C)]
 pub struct Field {
     pub flux: i32,
     pub angle: i32,

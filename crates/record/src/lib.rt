@@ -23,6 +23,7 @@ use field::Field;
 use shaft::Shaft;
 
 // In the order of the motor's sheet: the period, speed gains, current gains, the limits V and Q, the flux model's three, Kn, F, R.
+#[repr(C)]
 pub struct Settings {
     pub t: i32,
     pub skp: i32,
@@ -42,6 +43,7 @@ pub struct Settings {
 }
 
 // The target, and the three references: speed, torque, flux.
+#[repr(C)]
 pub struct Command {
     pub target: i32,
     pub reference: i32,
@@ -50,6 +52,7 @@ pub struct Command {
 }
 
 // The integrals of the three regulators.
+#[repr(C)]
 pub struct Integrals {
     pub speed: i32,
     pub d: i32,
@@ -57,6 +60,7 @@ pub struct Integrals {
 }
 
 // All words are 32 bits wide, so that a word out of its range can be told and refused.
+#[repr(C)]
 pub struct Drive {
     pub settings: Settings,
     pub shaft: Shaft,

@@ -19,6 +19,7 @@ ghost use Rattle.shaft.specs.Shaft.{
 };
 
 // What is known of the shaft: the last count and whether there was one, the movements and steps of the window, the speed.
+#[repr(C)]
 pub struct Shaft {
     pub count: i32,
     pub seen: bool,

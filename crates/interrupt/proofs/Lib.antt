@@ -1,0 +1,4 @@
+pub mod Words
+pub mod PlainCalls
+pub mod InPlace
+pub mod Structs

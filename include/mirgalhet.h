@@ -1,0 +1,210 @@
+/* Mirgalhet: a vector drive for three-phase induction motors, on a record that lies where you have it.
+ *
+ * The functions are proved: what each does is said once, as an equation for every record and every number, in crates/drive/specs and
+ * crates/interrupt/specs. This header has the same in words. The rules are document 01's ("The control step and its exact rules"), and
+ * so are the numbers handed back.
+ *
+ * Link with target/staticlib/libinterrupt.a, which `rt staticlib interrupt` writes for x86-64. It needs no library, calls nothing
+ * outside itself, allocates nothing and keeps nothing between calls: all there is of a drive is its record. Two drives are two records.
+ *
+ * What a caller owes, since no function can test it:
+ *   - d points to a record, and nothing else reads or writes it during a call. A call made in an interrupt must not come in the
+ *     middle of another on the same record.
+ *   - A flag (seen, tripped) is true or false. Make a record with `mirgalhet_drive d = {0};` before the first mirgalhet_start: flags that
+ *     were never written may be neither.
+ * Nothing else is owed: every 32-bit number is allowed in every word, in every sample, in every target and in every setting.
+ *
+ * Quantities are signed 4.12 numbers: 4096 is 1.0. */
+#ifndef MIRGALHET_H
+#define MIRGALHET_H
+
+#include <stddef.h>
+#include <stdint.h>
+#ifndef __cplusplus
+#include <stdbool.h>
+#endif
+
+#ifdef __cplusplus
+extern "C" {
+#endif
+
+/* The numbers handed back. 9 is a run's, which has no function here; 11 to 13 are free. */
+enum mirgalhet_number {
+    MIRGALHET_ACCEPTED = 0,
+    MIRGALHET_PERIOD = 1,       /* start: T out of range */
+    MIRGALHET_GAINS = 2,        /* start: a Kp, Kcor or Ki out of range */
+    MIRGALHET_GAINS_UNTIED = 3, /* start: either gain set breaks 4096 Ki = Kp Kcor */
+    MIRGALHET_LIMITS = 4,       /* start: V or Q out of range */
+    MIRGALHET_MOTOR = 5,        /* start: Kr, Kt, Kth, Kn, F or R out of range */
+    MIRGALHET_SAMPLE = 6,       /* step: ia, ib or ia + ib outside +-8191, or count outside 0..65535 */
+    MIRGALHET_TRIPPED = 7,      /* step, target: the drive is tripped */
+    MIRGALHET_TARGET = 8,       /* target: outside +-8191 */
+    MIRGALHET_RUN = 9,          /* a run: samples not in threes, or output too short */
+    MIRGALHET_NOT_TRIPPED = 10, /* clear: the drive is not tripped */
+    MIRGALHET_BROKEN = 14       /* step, target, clear: the record is broken */
+};
+
+/* In the order of the motor's sheet. */
+typedef struct mirgalhet_settings {
+    int32_t t;     /* T, period of the pulse counter: 100..4000 */
+    int32_t skp;   /* speed regulator: Kp 1..32767 */
+    int32_t skcor; /* Kcor 0..4096 */
+    int32_t ski;   /* Ki 0..32767, with 4096 Ki = Kp Kcor */
+    int32_t ckp;   /* current regulators, d and q: Kp, as above */
+    int32_t ckcor; /* Kcor */
+    int32_t cki;   /* Ki */
+    int32_t v;     /* V, limit of the voltage: 1..4096 */
+    int32_t q;     /* Q, limit of the torque reference: 1..8191 */
+    int32_t kr;    /* Kr 1..4096 */
+    int32_t kt;    /* Kt 0..32767 */
+    int32_t kth;   /* Kth 0..8191 */
+    int32_t kn;    /* Kn 1..4096 */
+    int32_t f;     /* F, flux: 410..8191 */
+    int32_t r;     /* R, ramp: 1..8191 */
+} mirgalhet_settings;
+
+typedef struct mirgalhet_shaft {
+    int32_t count; /* the last count, 0..65535 */
+    bool seen;     /* whether there was one */
+    int32_t sum;   /* the movements of the window, within +-32768 times its steps */
+    int32_t steps; /* the steps of the window, 0..29 */
+    int32_t speed; /* within +-16383 */
+} mirgalhet_shaft;
+
+typedef struct mirgalhet_command {
+    int32_t target;    /* within +-8191 */
+    int32_t reference; /* of the speed, within +-8191 */
+    int32_t torque;    /* torque reference, within +-Q */
+    int32_t flux;      /* flux reference, 0..F */
+} mirgalhet_command;
+
+typedef struct mirgalhet_field {
+    int32_t flux;  /* within +-20000 */
+    int32_t angle; /* 0..65535 */
+} mirgalhet_field;
+
+typedef struct mirgalhet_integrals {
+    int32_t speed; /* within +-Q */
+    int32_t d;     /* within +-V */
+    int32_t q;     /* within +-V */
+} mirgalhet_integrals;
+
+/* The record. Read what you like of it between two calls. A record with a word outside its range, or with settings that would be
+ * refused, is broken; a zeroed one is. No accepted call makes one. */
+typedef struct mirgalhet_drive {
+    mirgalhet_settings settings;
+    mirgalhet_shaft shaft;
+    mirgalhet_command command;
+    mirgalhet_field field;
+    mirgalhet_integrals integrals;
+    bool tripped;
+} mirgalhet_drive;
+
+/* What a step answers. On-time of a phase is T less its compare. */
+typedef struct mirgalhet_output {
+    int32_t a; /* the compares, 0..T */
+    int32_t b;
+    int32_t c;
+    int32_t number;
+    bool clipped;  /* whether the voltage was more than the period holds */
+    int32_t alpha; /* the voltage that was modulated, before clipping */
+    int32_t beta;
+} mirgalhet_output;
+
+/* A fresh drive with these settings in the place of *d. The lowest number that applies is given.
+ *   0        *d is the fresh drive: not tripped, everything 0 but the flux reference, which is F.
+ *   1 to 5   the settings are refused; *d is as it was.
+ * What *d was plays no part in the number, so a broken or a tripped drive can be replaced too. */
+int32_t mirgalhet_start(mirgalhet_drive *d, mirgalhet_settings settings);
+
+/* One step, for the phase currents ia and ib and the encoder's count: call it once a period.
+ *   0        the step is taken: *d is the drive after it.
+ *   14       the record is broken: compares 0, 0, 0; *d is as it was. Comes before 7.
+ *   7        the drive is tripped: compares T, T, T, so no phase is on; *d is as it was. Comes before 6.
+ *   6        the sample is refused: compares T, T, T; *d is as it was but marked tripped.
+ * With 6, 7 and 14 nothing is clipped and the voltage is 0, 0. */
+mirgalhet_output mirgalhet_step(mirgalhet_drive *d, int32_t ia, int32_t ib, int32_t count);
+
+/* A new target for the speed. The reference moves to it by R every 30th step.
+ *   0        the target is replaced, and nothing else.
+ *   14       the record is broken. Comes before 7.
+ *   7        the drive is tripped. Comes before 8.
+ *   8        wanted is outside +-8191.
+ * With 7, 8 and 14 *d is as it was. */
+int32_t mirgalhet_target(mirgalhet_drive *d, int32_t wanted);
+
+/* After a trip.
+ *   0        *d is the fresh drive of the same settings.
+ *   14       the record is broken; *d is as it was. Comes before 10.
+ *   10       the drive is not tripped; *d is as it was. */
+int32_t mirgalhet_clear(mirgalhet_drive *d);
+
+/* The archive was compiled for this layout; a compiler that lays the structs out in another way cannot call it. */
+#ifdef __cplusplus
+#define MIRGALHET_HOLDS(claim) static_assert(claim, #claim)
+#else
+#define MIRGALHET_HOLDS(claim) _Static_assert(claim, #claim)
+#endif
+#define MIRGALHET_SIZE(type, size) MIRGALHET_HOLDS(sizeof(type) == (size))
+#define MIRGALHET_AT(type, member, offset) MIRGALHET_HOLDS(offsetof(type, member) == (offset))
+
+MIRGALHET_SIZE(bool, 1);
+MIRGALHET_SIZE(mirgalhet_settings, 60);
+MIRGALHET_AT(mirgalhet_settings, t, 0);
+MIRGALHET_AT(mirgalhet_settings, skp, 4);
+MIRGALHET_AT(mirgalhet_settings, skcor, 8);
+MIRGALHET_AT(mirgalhet_settings, ski, 12);
+MIRGALHET_AT(mirgalhet_settings, ckp, 16);
+MIRGALHET_AT(mirgalhet_settings, ckcor, 20);
+MIRGALHET_AT(mirgalhet_settings, cki, 24);
+MIRGALHET_AT(mirgalhet_settings, v, 28);
+MIRGALHET_AT(mirgalhet_settings, q, 32);
+MIRGALHET_AT(mirgalhet_settings, kr, 36);
+MIRGALHET_AT(mirgalhet_settings, kt, 40);
+MIRGALHET_AT(mirgalhet_settings, kth, 44);
+MIRGALHET_AT(mirgalhet_settings, kn, 48);
+MIRGALHET_AT(mirgalhet_settings, f, 52);
+MIRGALHET_AT(mirgalhet_settings, r, 56);
+MIRGALHET_SIZE(mirgalhet_shaft, 20);
+MIRGALHET_AT(mirgalhet_shaft, count, 0);
+MIRGALHET_AT(mirgalhet_shaft, seen, 4);
+MIRGALHET_AT(mirgalhet_shaft, sum, 8);
+MIRGALHET_AT(mirgalhet_shaft, steps, 12);
+MIRGALHET_AT(mirgalhet_shaft, speed, 16);
+MIRGALHET_SIZE(mirgalhet_command, 16);
+MIRGALHET_AT(mirgalhet_command, target, 0);
+MIRGALHET_AT(mirgalhet_command, reference, 4);
+MIRGALHET_AT(mirgalhet_command, torque, 8);
+MIRGALHET_AT(mirgalhet_command, flux, 12);
+MIRGALHET_SIZE(mirgalhet_field, 8);
+MIRGALHET_AT(mirgalhet_field, flux, 0);
+MIRGALHET_AT(mirgalhet_field, angle, 4);
+MIRGALHET_SIZE(mirgalhet_integrals, 12);
+MIRGALHET_AT(mirgalhet_integrals, speed, 0);
+MIRGALHET_AT(mirgalhet_integrals, d, 4);
+MIRGALHET_AT(mirgalhet_integrals, q, 8);
+MIRGALHET_SIZE(mirgalhet_drive, 120);
+MIRGALHET_AT(mirgalhet_drive, settings, 0);
+MIRGALHET_AT(mirgalhet_drive, shaft, 60);
+MIRGALHET_AT(mirgalhet_drive, command, 80);
+MIRGALHET_AT(mirgalhet_drive, field, 96);
+MIRGALHET_AT(mirgalhet_drive, integrals, 104);
+MIRGALHET_AT(mirgalhet_drive, tripped, 116);
+MIRGALHET_SIZE(mirgalhet_output, 28);
+MIRGALHET_AT(mirgalhet_output, a, 0);
+MIRGALHET_AT(mirgalhet_output, b, 4);
+MIRGALHET_AT(mirgalhet_output, c, 8);
+MIRGALHET_AT(mirgalhet_output, number, 12);
+MIRGALHET_AT(mirgalhet_output, clipped, 16);
+MIRGALHET_AT(mirgalhet_output, alpha, 20);
+MIRGALHET_AT(mirgalhet_output, beta, 24);
+
+#undef MIRGALHET_AT
+#undef MIRGALHET_SIZE
+#undef MIRGALHET_HOLDS
+
+#ifdef __cplusplus
+}
+#endif
+
+#endif
