@@ -2,3 +2,4 @@ pub mod Sizes
 pub mod Kept
 pub mod Regulating
 pub mod CallLaws
+pub mod SteppedTold

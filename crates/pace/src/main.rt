@@ -2,7 +2,6 @@
 // (those of one more run with rows − those of one more without) / 32, whatever reading, starting and writing cost.
 use drive::Made;
 use record::Drive;
-use record::Settings;
 
 // A motor that turns slowly at its nominal flux: the currents scatter, the count moves, slip divides in every row once the flux is there.
 const SAMPLES: [i32; 96] = [
@@ -104,26 +103,6 @@ const SAMPLES: [i32; 96] = [
     78,
 ];
 
-fn bench() -> Settings {
-    Settings {
-        t: 600,
-        skp: 8192,
-        skcor: 64,
-        ski: 128,
-        ckp: 4096,
-        ckcor: 256,
-        cki: 256,
-        v: 4096,
-        q: 3277,
-        kr: 75,
-        kt: 310,
-        kth: 164,
-        kn: 64,
-        f: 2458,
-        r: 41,
-    }
-}
-
 // How many steps the last run accepted; each run goes on with the drive that the one before it left.
 fn runs(d: Drive, samples: &[i32], out: &mut [i32], times: usize) -> usize {
     let mut last = d;
@@ -149,7 +128,7 @@ fn above(v: i32) -> u64 {
 }
 
 fn main() {
-    let Made::Ready(d) = drive::make(bench()) else {
+    let Made::Ready(d) = drive::make(record::bench()) else {
         return;
     };
     let mut bytes = io::large_buffer();

@@ -17,7 +17,8 @@ use Rattle.drive.specs.Step.{advanced}
 use Rattle.drive.specs.Calls.{fresh, sampleOk, stepped}
 use Rattle.drive.proofs.Kept.{fresh-sound, stepped-sound, targeted-sound, cleared-sound}
 use Rattle.rows.specs.declared.Ran.{Ran}
-use Rattle.rows.specs.Rows.{rowStepped, four, isAccepted, isClipped, one, none, afterRow, ranOf, writtenOf, rowsIn, rowsFit, runOf, outOf}
+use Rattle.rows.specs.Rows.{four, isAccepted, isClipped, one, none, afterRow, ranOf, writtenOf, rowsIn, rowsFit, runOf, outOf}
+use Rattle.rows.proofs.Runs.{rows-sound}
 use Rattle.promises.specs.Histories.{Call, stepping, aiming, clearing, running, after, afterAll, History, rowAt, countOf}
 use Rattle.promises.proofs.Demand1 as table
 
@@ -69,11 +70,6 @@ run-counts d samples out e f =
     (rw (e, f) (accepted-count d samples (rowsIn samples)), rw (e, f) (clipped-count d samples (rowsIn samples)))
 
 -- ════ any history
-rows-sound : (d : Drive) (samples : List ℤ) (n : ℕ) → Sound d → Sound (ranOf d samples n .drive)
-unfolding ranOf none afterRow rowStepped
-rows-sound d samples zero h = h
-rows-sound d samples (suc n) h = stepped-sound (ranOf d samples n .drive) _ _ _ (rows-sound d samples n h)
-
 run-sound : (d : Drive) (samples out : List ℤ) → Sound d → Sound (runOf d samples out .drive)
 unfolding runOf none
 run-sound d samples out h = by (broken d) (rowsFit (length samples) (length out)) (ranOf d samples (rowsIn samples)) (rows-sound d samples (rowsIn samples) h)

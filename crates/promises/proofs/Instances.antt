@@ -14,13 +14,14 @@ use Rattle.frames.specs.Frames.{clarke, park, inversePark}
 use Rattle.modulation.specs.Modulation.{entriesOf, bit, numberOf, rowAt, rowOf, timeOf, clippedTimes, timesOf, compareAt, placed, modulated}
 use Rattle.rows.specs.Rows.{rowsFit}
 use Rattle.shaft.specs.Shaft.{signed, movement, moved, counted, thirtieth, speedOf, measured, rampedTo, sizeOf, weakened}
+use Rattle.record.specs.Bench.{bench}
 use Rattle.record.specs.Record.{periodOk, gainOk, gainsOk, tied, gainsTied, limitsOk, restOk, refusal, accepted, inside, shaftOk, commandOk, fieldOk, integralsOk, sound, broken}
 use Rattle.record.proofs.Ranges.{Sound, sound→}
 use Rattle.drive.specs.Step.{speedGains, currentGains, speedRegulated, currentRegulated, rampedBy, withTorque, withSpeed, withCommand, commanded, turned, currents, fieldAfter, dRegulated, qRegulated, voltageOf, voltageFor, withField, advanced, driven, pulsed, outcome}
 use Rattle.drive.specs.Calls.{fresh, sampleOk, tripped, taken, stepped}
 use Rattle.promises.specs.Histories.{History, afterAll, Sample, stepOn, AllAccepted}
 use Rattle.promises.specs.Words.{seen, dError, qError, next, speedError}
-use Rattle.promises.specs.Bench.{bench, waiting, spoiled, still}
+use Rattle.promises.specs.Bench.{waiting, spoiled, still}
 
 pub bench-accepted : accepted bench ≡ true
 unfolding bench accepted refusal periodOk gainsOk gainOk gainsTied tied limitsOk restOk

@@ -19,6 +19,7 @@ ghost use Rattle.record.specs.Record.{
   integralsOk,
   sound as soundOf,
 };
+ghost use Rattle.record.specs.Bench.{bench as benchOf};
 use field::Field;
 use shaft::Shaft;
 
@@ -68,6 +69,29 @@ pub struct Drive {
     pub field: Field,
     pub integrals: Integrals,
     pub tripped: bool,
+}
+
+// 01's bench set, with which its program runs.
+pub fn bench() -> Settings
+    ensures { λ r. ⌜ r ≡ benchOf ⌝ }
+{
+    Settings {
+        t: 600,
+        skp: 8192,
+        skcor: 64,
+        ski: 128,
+        ckp: 4096,
+        ckcor: 256,
+        cki: 256,
+        v: 4096,
+        q: 3277,
+        kr: 75,
+        kt: 310,
+        kth: 164,
+        kn: 64,
+        f: 2458,
+        r: 41,
+    }
 }
 
 fn period_ok(s: Settings) -> bool

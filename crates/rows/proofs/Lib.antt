@@ -1,4 +1,4 @@
-pub mod Told
 pub mod Lists
 pub mod Runs
 pub mod Outcomes
+pub mod Pieces

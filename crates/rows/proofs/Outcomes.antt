@@ -1,36 +1,18 @@
 -- What a run answers and leaves, case by case: 14, 9, and the rows; and when each is so.
 -- Assumes nothing.
 use mathlib.Core.Path.{_≡_, refl, sym}
-use mathlib.Core.Bool.{Bool, true, false, not, cond}
+use mathlib.Core.Bool.{Bool, true, false}
 use mathlib.Core.List.{List, _++_}
 use Prim.Native.Nat.{ℕ, _*_, _/_, _%_, _≤_}
 use native.Mathlib.Omega.{arith}
-use borrow.Author.Tests.{le-leb, lt-leb, leb-true, leb-false}
+use borrow.Author.Tests.{le-leb, lt-leb, leb-true, leb-false, eqb-true}
 use lib.Dec.{eqb, leb}
 use lib.IntN.{ℤ, pos}
 use lib.ListN.{length, drop}
-use Rattle.fixed.proofs.HeldLaws.{and-right}
-use Rattle.record.specs.declared.Settings.{Settings}
+use Rattle.fixed.proofs.HeldLaws.{and-left, and-right}
 use Rattle.record.specs.declared.Drive.{Drive}
-use Rattle.record.specs.Record.{accepted, sound, broken, refusal}
-use Rattle.drive.specs.declared.Made.the-variants.{Ready, Refused}
-use Rattle.drive.specs.Calls.{made, fresh}
+use Rattle.record.specs.Record.{broken}
 use Rattle.rows.specs.Rows.{none, ranOf, writtenOf, rowsIn, rowsFit, runOf, outOf}
-
--- ════ 14
--- settings that make no drive are not accepted
-made-refused : (s : Settings) (n : ℤ) → made s ≡ Refused n → accepted s ≡ false
-unfolding made
-made-refused s n = by (accepted s)
-  where
-    by : (b : Bool) → cond b (Ready (fresh s)) (Refused (refusal s)) ≡ Refused n → b ≡ false
-    by true e = cc
-    by false e = refl
-
--- and a record with such settings is broken
-pub refused-broken : (d : Drive) (n : ℤ) → made (d .settings) ≡ Refused n → broken d ≡ true
-unfolding broken sound
-refused-broken d n e = rw (made-refused (d .settings) n e) refl
 
 -- ════ 9
 -- n rows against the output, counted in fours
@@ -40,6 +22,10 @@ fours n m = by (leb n (m / 4)) refl
     by : (b : Bool) → leb n (m / 4) ≡ b → b ≡ leb (4 * n) m
     by true e = sym (le-leb (4 * n) m (omega (arith, leb-true n (m / 4) e)))
     by false e = sym (lt-leb (4 * n) m (omega (arith, leb-false n (m / 4) e)))
+
+pub threes : (samples out : ℕ) → rowsFit samples out ≡ true → samples ≡ 3 * (samples / 3)
+unfolding rowsFit
+threes samples out e = let m = eqb-true (samples % 3) 0 (and-left (eqb (samples % 3) 0) _ e) in omega arith
 
 pub room : (samples out : ℕ) → rowsFit samples out ≡ true → 4 * (samples / 3) ≤ out
 unfolding rowsFit

@@ -30,6 +30,11 @@ pub row-sound : (d : Drive) (samples : List ℤ) (i : ℕ) → Sound d → Sound
 unfolding rowStepped
 row-sound d samples i h = stepped-sound d _ _ _ h
 
+pub rows-sound : (d : Drive) (samples : List ℤ) (n : ℕ) → Sound d → Sound (ranOf d samples n .drive)
+unfolding ranOf none afterRow
+rows-sound d samples zero h = h
+rows-sound d samples (suc n) h = row-sound (ranOf d samples n .drive) samples n (rows-sound d samples n h)
+
 -- what stands after i of n rows of a run from d over samples into o
 pub record Upto (d : Drive) (samples o : List ℤ) (n : ℕ) (out : List ℤ) (cur : Drive) (accepted clipped i : ℕ) : Type 0 where
   pub low : i ≤ n

@@ -8,7 +8,6 @@ ghost use Rattle.lines.specs.Chunk.{Inside};
 ghost use Rattle.run_rows.specs.Texts.{rowsText, totalsText, sumOf, Ready, Batched};
 use lines::Reader;
 use record::Drive;
-use record::Settings;
 
 // What is kept from one batch to the next: the reader, whether there are rows to come, the drive, the accepted steps and the clipped ones
 // among them, and how many bytes of output wait.
@@ -26,26 +25,6 @@ pub struct Batch {
     pub reader: Reader,
     pub rows: usize,
     pub going: bool,
-}
-
-fn bench() -> Settings {
-    Settings {
-        t: 600,
-        skp: 8192,
-        skcor: 64,
-        ski: 128,
-        ckp: 4096,
-        ckcor: 256,
-        cki: 256,
-        v: 4096,
-        q: 3277,
-        kr: 75,
-        kt: 310,
-        kth: 164,
-        kn: 64,
-        f: 2458,
-        r: 41,
-    }
 }
 
 // A row is a line of exactly three numbers.
@@ -187,7 +166,7 @@ fn start(d: Drive, place: usize) -> State
 }
 
 fn main() {
-    let drive::Made::Ready(d) = drive::make(bench()) else {
+    let drive::Made::Ready(d) = drive::make(record::bench()) else {
         return;
     };
     let mut bytes = io::large_buffer();

@@ -8,8 +8,9 @@ use lib.ListN.{length}
 use denote.Ref.{now}
 use Rattle.record.specs.Record.{sound, broken}
 use Rattle.record.proofs.Asked.{no, yes}
+use Rattle.drive.proofs.CallLaws.{refused-broken}
 use Rattle.rows.specs.Rows.{rowsFit}
-use Rattle.rows.proofs.Outcomes.{refused-broken, room, run-14, run-9, run-0}
+use Rattle.rows.proofs.Outcomes.{room, run-14, run-9, run-0}
 use Rattle.rows.proofs.run.Statement.{statement}
 use Rattle.rows.proofs.run.Tie as tie
 

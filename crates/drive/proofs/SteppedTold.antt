@@ -1,4 +1,4 @@
--- Each signed word of a step's answer that a run reads, its number and its compares, comes back from its bits.
+-- Each signed word of a step's answer that is written, its number and its compares, comes back from its bits.
 -- Assumes nothing.
 use mathlib.Core.Path.{_≡_}
 use mir.Facts.{toZ-ofZ}
