@@ -12,7 +12,7 @@ use lib.ListN.{length, length-append, List·getD-append}
 use lib.Seq.{getD-append-add}
 use Rattle.record.specs.declared.Drive.{Drive}
 use Rattle.record.specs.Record.{broken}
-use Rattle.record.proofs.Ranges.{Sound, not-broken}
+use Rattle.record.proofs.Ranges.{not-broken}
 use Rattle.drive.specs.declared.Stepped.{Stepped}
 use Rattle.rows.specs.declared.Ran.{Ran}
 use Rattle.rows.specs.Rows.{rowStepped, four, none, afterRow, ranOf, writtenOf, rowsIn, rowsFit, runOf}
@@ -109,8 +109,12 @@ module _ (s t : List ℤ) (n : ℕ) (h : length s ≡ 3 * n) where
 
 -- ════ the run
 -- as many rows as are in both
-both-rows : (s t : List ℤ) → length s ≡ 3 * rowsIn s → rowsIn (s ++ t) ≡ rowsIn s + rowsIn t
+pub both-rows : (s t : List ℤ) → length s ≡ 3 * rowsIn s → rowsIn (s ++ t) ≡ rowsIn s + rowsIn t
 both-rows s t h = simp length-append (omega arith)
+
+-- rows leave no broken record
+pub still-unbroken : (d : Drive) (samples : List ℤ) (n : ℕ) → broken d ≡ false → broken (ranOf d samples n .drive) ≡ false
+still-unbroken d samples n b = not-broken (ranOf d samples n .drive) .1 (rows-sound d samples n (not-broken d .0 b))
 
 -- rows s with the output o, and then the rows t with p, are the run of both with any output that has room for both
 pub run-in-pieces : (d : Drive) (s t o p out : List ℤ) → broken d ≡ false →
@@ -118,10 +122,8 @@ pub run-in-pieces : (d : Drive) (s t o p out : List ℤ) → broken d ≡ false 
     runOf d (s ++ t) out ≡ joined (runOf d s o) (runOf (runOf d s o .drive) t p)
 run-in-pieces d s t o p out b f g e =
     let n = rowsIn s in
-    let k : Sound (ranOf d s n .drive) = rows-sound d s n (not-broken d .0 b) in
-    let b2 = not-broken (ranOf d s n .drive) .1 k in
     let r1 = run-0 d s o b f .0 in
-    let r2 = run-0 (ranOf d s n .drive) t p b2 g .0 in
+    let r2 = run-0 (ranOf d s n .drive) t p (still-unbroken d s n b) g .0 in
     let r3 = run-0 d (s ++ t) out b e .0 in
     let h = threes (length s) (length o) f in
     rw (r1, r2, r3, both-rows s t h) (ran-in-pieces s t n h d (rowsIn t))

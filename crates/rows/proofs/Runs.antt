@@ -17,7 +17,7 @@ use Rattle.rows.specs.Rows.{rowStepped, four, isAccepted, isClipped, one
 use Rattle.rows.proofs.Lists.{next-four}
 
 -- n rows write 4·n numbers
-written-length : (d : Drive) (samples : List ℤ) (n : ℕ) → length (writtenOf d samples n) ≡ 4 * n
+pub written-length : (d : Drive) (samples : List ℤ) (n : ℕ) → length (writtenOf d samples n) ≡ 4 * n
 unfolding writtenOf four
 written-length d samples zero = refl
 written-length d samples (suc n) = let h = written-length d samples n in simp length-append (omega arith)

@@ -34,23 +34,23 @@ loop-less c = omega arith
 mul-at : tie.Need-mul-at Inv-loop μ-loop
 mul-at c = omega arith
 
-add-next-line : tie.Need-add-next-line Inv-loop μ-loop
-add-next-line c = omega arith
+add-next-row : tie.Need-add-next-row Inv-loop μ-loop
+add-next-row c = omega arith
 
-mul-next-line : tie.Need-mul-next-line Inv-loop μ-loop
-mul-next-line c = omega arith
+mul-next-row : tie.Need-mul-next-row Inv-loop μ-loop
+mul-next-row c = omega arith
 
-sub-next-line : tie.Need-sub-next-line Inv-loop μ-loop
-sub-next-line c = omega arith
+sub-next-row : tie.Need-sub-next-row Inv-loop μ-loop
+sub-next-row c = omega arith
 
-part-next-line-start : tie.Need-part-next-line-start Inv-loop μ-loop
-part-next-line-start c = omega arith
+part-next-row-start : tie.Need-part-next-row-start Inv-loop μ-loop
+part-next-row-start c = omega arith
 
-part-next-line-end : tie.Need-part-next-line-end Inv-loop μ-loop
-part-next-line-end c = omega arith
+part-next-row-end : tie.Need-part-next-row-end Inv-loop μ-loop
+part-next-row-end c = omega arith
 
-next-line-requires : tie.Need-next-line-requires Inv-loop μ-loop
-next-line-requires c κs = omega arith
+next-row-requires : tie.Need-next-row-requires Inv-loop μ-loop
+next-row-requires c κs = omega arith
 
 add-i : tie.Need-add-i Inv-loop μ-loop
 add-i c = omega arith
@@ -75,12 +75,12 @@ read-batch-spec =
     μ-loop
     loop-holds
     mul-at
-    add-next-line
-    mul-next-line
-    sub-next-line
-    part-next-line-start
-    part-next-line-end
-    next-line-requires
+    add-next-row
+    mul-next-row
+    sub-next-row
+    part-next-row-start
+    part-next-row-end
+    next-row-requires
     (λ c κs. tt)
     same-length
     same-length-2

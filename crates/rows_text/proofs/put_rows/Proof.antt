@@ -1,11 +1,11 @@
--- `run_rows::put_rows` meets its contract. The measure is how many rows are left.
+-- `rows_text::put_rows` meets its contract. The measure is how many rows are left.
 -- Assumes nothing.
 use Prim.Native.Nat.{_-_}
 use native.Mathlib.Omega.{arith}
 use denote.Ref.{now}
-use Rattle.run_rows.proofs.RowsLaws.{Putting, putting-start, putting-more, putting-end}
-use Rattle.run_rows.proofs.put_rows.Statement.{statement}
-use Rattle.run_rows.proofs.put_rows.Tie as tie
+use Rattle.rows_text.proofs.RowsLaws.{Putting, putting-start, putting-more, putting-end}
+use Rattle.rows_text.proofs.put_rows.Statement.{statement}
+use Rattle.rows_text.proofs.put_rows.Tie as tie
 
 abbrev Inv-loop : tie.InvT-loop
 Inv-loop answers k out₀ at place₀ i₀ out place i = Putting answers k at out₀ out place i

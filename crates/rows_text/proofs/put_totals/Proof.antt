@@ -1,12 +1,12 @@
--- `run_rows::put_totals` meets its contract: 56 places are room for 16 bytes and any two counts.
+-- `rows_text::put_totals` meets its contract: 56 places are room for 16 bytes and any two counts.
 -- Assumes nothing.
 use borrow.Author.Needs.{needs}
 use native.Mathlib.Omega.{arith}
 use Rattle.text.proofs.DecimalLaws.{count-length}
 use Rattle.lines.proofs.TextLaws.{put}
-use Rattle.run_rows.proofs.RowsLaws.{totals-put}
-use Rattle.run_rows.proofs.put_totals.Statement.{statement}
-use Rattle.run_rows.proofs.put_totals.Tie as tie
+use Rattle.rows_text.proofs.RowsLaws.{totals-put}
+use Rattle.rows_text.proofs.put_totals.Statement.{statement}
+use Rattle.rows_text.proofs.put_totals.Tie as tie
 
 returns : tie.Need-returns
 returns c =

@@ -11,7 +11,7 @@ use lib.Seq.{take-take}
 use Rattle.text.specs.Decimal.{countText, lineText, written}
 use Rattle.text.proofs.Written.{written-none}
 use Rattle.lines.proofs.TextLaws.{Put, put, put-then}
-use Rattle.run_rows.specs.Texts.{rowOf, rowsText, totalsText}
+use Rattle.rows_text.specs.Texts.{rowOf, rowsText, totalsText}
 
 rows-more : (ns : List ℤ) (i : ℕ) → rowsText ns i ++ lineText (rowOf ns i) ≡ rowsText ns (i + 1)
 unfolding rowsText

@@ -1,0 +1,3 @@
+pub mod RowMeaning
+pub mod RowsLaws
+pub mod Batches
