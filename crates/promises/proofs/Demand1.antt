@@ -1,7 +1,7 @@
 -- Demand 1, the table of numbers: each number is given exactly when its row says, with the order of precedence, and what the drive, the
 -- compares and the output lent to a run are then. For make, step, target, clear and run.
 -- Assumes nothing.
-use mathlib.Core.Path.{_≡_, refl, sym, _∙_, ap}
+use mathlib.Core.Path.{_≡_, refl, sym, _∙_}
 use mathlib.Core.Bool.{Bool, true, false, cond}
 use mathlib.Core.List.{List}
 use mathlib.Core.Logic.{_↔_}

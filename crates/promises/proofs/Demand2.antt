@@ -1,20 +1,17 @@
 -- Demand 2: an accepted step is what the rules give; a run is its steps row by row, with the counts of exactly those rows; and through any
 -- list of calls, accepted or refused, no record is broken.
 -- Assumes nothing.
-use mathlib.Core.Path.{_≡_, refl, sym, _∙_, ap, subst}
+use mathlib.Core.Path.{_≡_, refl, ap, subst}
 use mathlib.Core.Bool.{Bool, true, false, cond}
 use mathlib.Core.List.{List, [], _∷_, _++_}
-use mathlib.Core.Logic.{_↔_}
 use Prim.Native.Nat.{ℕ, zero, suc, _+_, _*_}
 use lib.IntN.{ℤ, pos}
 use lib.ListN.{length, drop}
-use Rattle.record.specs.declared.Settings.{Settings}
 use Rattle.record.specs.declared.Drive.{Drive}
 use Rattle.record.specs.Record.{accepted, broken}
 use Rattle.record.proofs.Ranges.{Sound, not-broken}
-use Rattle.drive.specs.declared.Stepped.{Stepped}
 use Rattle.drive.specs.Step.{advanced}
-use Rattle.drive.specs.Calls.{fresh, sampleOk, stepped}
+use Rattle.drive.specs.Calls.{fresh, stepped}
 use Rattle.drive.proofs.Kept.{fresh-sound, stepped-sound, targeted-sound, cleared-sound}
 use Rattle.rows.specs.declared.Ran.{Ran}
 use Rattle.rows.specs.Rows.{four, isAccepted, isClipped, one, none, afterRow, ranOf, writtenOf, rowsIn, rowsFit, runOf, outOf}

@@ -20,8 +20,8 @@ use Rattle.modulation.specs.Modulation.{modulated, A, B}
 use Rattle.modulation.proofs.Compares.{InPeriod, Near, on, compares-within, on-times}
 use Rattle.record.specs.declared.Drive.{Drive}
 use Rattle.record.proofs.Ranges.{Inside, Sound, not-broken}
-use Rattle.drive.specs.Step.{speedGains, currentGains, speedRegulated, currentRegulated, rampedBy, withTorque, withSpeed, withShaft, withCommand, commanded, turned, dRegulated, qRegulated, voltageOf, voltageFor, withField, outcome, pulsed, driven, advanced}
-use Rattle.drive.specs.Calls.{sampleOk, stepped}
+use Rattle.drive.specs.Step.{speedGains, currentGains, speedRegulated, currentRegulated, withTorque, withSpeed, withShaft, withCommand, commanded, turned, dRegulated, qRegulated, voltageOf, voltageFor, withField, outcome, pulsed, driven, advanced}
+use Rattle.drive.specs.Calls.{stepped}
 use Rattle.drive.proofs.Sizes as size
 use Rattle.drive.proofs.Kept as kept
 use Rattle.promises.specs.Histories.{History}

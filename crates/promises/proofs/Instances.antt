@@ -2,11 +2,11 @@
 -- Assumes nothing.
 use mathlib.Core.Path.{_≡_, refl, _∙_}
 use mathlib.Core.Bool.{true, false}
-use mathlib.Core.List.{List, [], _∷_}
+use mathlib.Core.List.{[], _∷_}
 use lib.Dec.{lit<}
-use lib.IntN.{ℤ, pos, negsuc, _*ℤ_}
+use lib.IntN.{ℤ, pos, _*ℤ_}
 use lib.Signed.{_<ℤ_, _≤ℤ_, ltZ-yes, leZ-yes}
-use Rattle.fixed.specs.Fixed.{down, held, modulo, within}
+use Rattle.fixed.specs.Fixed.{down, held, modulo}
 use Rattle.sine.specs.Sine.{rootFrom, root, halved, cos2, cos1, sin1, turn, turned as turned-table, rising, half, sineEntry, indexOf, sineIn, cosineIn, sineAt, cosineAt}
 use Rattle.sine.proofs.Rule.{entry-at}
 use Rattle.regulator.specs.Regulator.{sumOf, outOf, nextOf, regulated}
@@ -19,7 +19,7 @@ use Rattle.record.specs.Record.{periodOk, gainOk, gainsOk, tied, gainsTied, lim
 use Rattle.record.proofs.Ranges.{Sound, sound→}
 use Rattle.drive.specs.Step.{speedGains, currentGains, speedRegulated, currentRegulated, rampedBy, withTorque, withSpeed, withCommand, commanded, turned, currents, fieldAfter, dRegulated, qRegulated, voltageOf, voltageFor, withField, advanced, driven, pulsed, outcome}
 use Rattle.drive.specs.Calls.{fresh, sampleOk, tripped, taken, stepped}
-use Rattle.promises.specs.Histories.{History, afterAll, Sample, stepOn, AllAccepted}
+use Rattle.promises.specs.Histories.{History, afterAll, stepOn, AllAccepted}
 use Rattle.promises.specs.Words.{seen, dError, qError, next, speedError}
 use Rattle.promises.specs.Bench.{waiting, spoiled, still}
 

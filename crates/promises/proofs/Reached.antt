@@ -1,7 +1,7 @@
 -- The ramp over steps: with the target unchanged and no trip, the reference is at the target after gap/R ticks, rounded up, and not sooner;
 -- and every thirtieth step is a tick.
 -- Assumes nothing.
-use mathlib.Core.Path.{_≡_, refl, sym, _∙_, ap, ap₂, subst}
+use mathlib.Core.Path.{_≡_, refl, sym, _∙_, ap}
 use mathlib.Core.Bool.{Bool, true, false, cond}
 use mathlib.Core.List.{List, [], _∷_}
 use mathlib.Core.Logic.{_↔_}
@@ -11,7 +11,6 @@ use native.Mathlib.Omega.{arith}
 use lib.Dec.{lit<}
 use lib.IntN.{ℤ, pos, negsuc, natAbs, _-ℤ_}
 use lib.ListN.{length}
-use lib.Signed.{_≤ℤ_}
 use Rattle.fixed.proofs.Parts.{order}
 use Rattle.fixed.proofs.Equal.{ap₃}
 use Rattle.fixed.proofs.HeldLaws.{within-lo, within-size}
@@ -19,9 +18,8 @@ use Rattle.shaft.specs.Shaft.{counted, thirtieth, measured, rampedTo, ramped}
 use Rattle.shaft.proofs.Ramp as ramp
 use Rattle.shaft.proofs.Window as window
 use Rattle.record.specs.declared.Drive.{Drive}
-use Rattle.record.proofs.Ranges.{In, Sound, not-broken}
+use Rattle.record.proofs.Ranges.{In, Sound}
 use Rattle.drive.specs.Step.{rampedBy, withTorque, withShaft, withCommand, commanded, turned, withField, outcome, pulsed, driven, advanced}
-use Rattle.drive.specs.Calls.{stepped}
 use Rattle.drive.proofs.Kept.{stepped-sound}
 use Rattle.rows.specs.Rows.{one}
 use Rattle.promises.specs.Histories.{Sample, stepOn, afterSteps, AllAccepted, ticksOf, roundedUp}

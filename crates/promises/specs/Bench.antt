@@ -1,6 +1,6 @@
 -- Drives with 01's bench set, at which the promises' hypotheses are met.
 use mathlib.Core.Bool.{true, false}
-use lib.IntN.{ℤ, pos, negsuc}
+use lib.IntN.{ℤ, pos}
 use Rattle.record.specs.declared.Drive.{Drive}
 use Rattle.record.specs.Bench.{bench}
 use Rattle.promises.specs.Histories.{Sample}
