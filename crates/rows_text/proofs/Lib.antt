@@ -1,3 +1,3 @@
 pub mod RowMeaning
+pub mod Finding
 pub mod RowsLaws
-pub mod Batches

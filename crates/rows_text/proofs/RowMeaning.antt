@@ -10,15 +10,16 @@ use native.Mathlib.Omega.{arith}
 use borrow.Author.Tests.{eqb-true, ne-eqb}
 use lib.Dec.{eqb}
 use lib.IntN.{ℤ}
-use lib.ListN.{length, drop}
-use lib.Seq.{drop-length}
+use lib.ListN.{length, take, drop}
+use lib.Seq.{drop-length, drop-drop}
 use Rattle.text.specs.Grammar.{lineOf}
 use Rattle.text.specs.Automaton.{Reading, lineRead}
 use Rattle.text.proofs.Lines.{Taken, accepted, refused, too-many}
 use Rattle.text.proofs.Choice.{less-or-not}
-use Rattle.lines.specs.Chunk.{upToFeed, Whole}
+use Rattle.lines.specs.Chunk.{upToFeed, consumed, left, Whole}
 use Rattle.lines.specs.declared.Reader.{Reader}
 use Rattle.rows_text.specs.Row.{three, rowIn, isRow, rowTold}
+use Rattle.rows_text.specs.Found.{RowRead}
 
 -- what a reading tells
 abbrev told : Reading → Option (List ℤ)
@@ -56,6 +57,15 @@ line-told bs ns h = by (lineOf bs) refl
         (λ l. told-taken ns zs (lineRead ns bs) h (accepted bs ns zs e l))
         (less-or-not (length ns) (length zs))
 
-pub row-told : {bs : List ℕ} {r : Reader} {ns : List ℤ} {n : Reader} {ms : List ℤ} → Whole bs r ns n ms → length ns ≡ 3 → rowTold n ms ≡ rowIn (upToFeed bs)
+row-told : {bs : List ℕ} {r : Reader} {ns : List ℤ} {n : Reader} {ms : List ℤ} → Whole bs r ns n ms → length ns ≡ 3 → rowTold n ms ≡ rowIn (upToFeed bs)
 unfolding rowTold isRow
 row-told {bs} {r} {ns} {n} {ms} w h = rw (w .there) (ap told (w .became) ∙ line-told (upToFeed bs) ns h)
+
+-- and the chunk goes on behind it
+pub row-read : {bytes next : List ℕ} {r : Reader} {ns : List ℤ} {n : Reader} {ms : List ℤ} → Whole (left r bytes) r ns n ms → next ≡ bytes → length ns ≡ 3 →
+    RowRead (left r bytes) next n ms
+row-read {bytes} {next} {r} {ns} {n} {ms} w e h =
+    record {
+      told = row-told w h;
+      rest = rw (w .place, w .sized, e) (sym (drop-drop (consumed (left r bytes)) (r .at) (take (r .size) bytes)));
+    }

@@ -1,21 +1,20 @@
-// Rows as text: a line as a row of samples, a batch of rows through the run, its answers as lines, and the totals.
+// Rows as text: a line as a row of samples, the rows of a chunk, the answers of a run as lines, the header and the totals.
 ghost use mathlib.Core.Path.{_≡_};
 ghost use mathlib.Core.Bool.{true};
 ghost use Prim.Native.Nat.{_+_, _*_, _≤_};
 ghost use lib.ListN.{length};
 ghost use Rattle.text.specs.Decimal.{written};
-ghost use Rattle.lines.specs.Chunk.{Inside, left, hasFeed, upToFeed};
-ghost use Rattle.rows_text.specs.Row.{rowIn, isRow, rowTold};
-ghost use Rattle.rows_text.specs.Texts.{headerText, rowsText, totalsText, closingText, sumOf, Batched};
+ghost use Rattle.lines.specs.Chunk.{Inside, left, hasFeed};
+ghost use Rattle.rows_text.specs.Row.{isRow};
+ghost use Rattle.rows_text.specs.Found.{found, RowRead, BatchRead};
+ghost use Rattle.rows_text.specs.Texts.{headerText, rowsText, totalsText};
 use lines::Reader;
-use record::Drive;
 
-// What goes from one batch to the next: the drive, the accepted steps and the clipped ones among them, and how many bytes of output wait.
-pub struct Tally {
-    pub drive: Drive,
-    pub accepted: u64,
-    pub clipped: u64,
-    pub place: usize,
+// What was read: so many rows, and whether there may be more.
+pub struct Batch {
+    pub reader: Reader,
+    pub rows: usize,
+    pub going: bool,
 }
 
 // A row is a line of exactly three numbers.
@@ -29,9 +28,37 @@ pub fn is_row(r: Reader) -> bool
 pub fn next_row(r: Reader, bytes: &mut [u8], row: &mut [i32]) -> Reader
     requires { ⌜ Inside r (now bytes) × (length (now row) ≡ 3) ⌝ }
     ensures { λ n. ⌜ Inside n (now (bytes .exit)) ⌝ }
-    ensures { λ n. ⌜ (hasFeed (left r (now (bytes .entry))) ≡ true → rowTold n (now (row .exit)) ≡ rowIn (upToFeed (left r (now (bytes .entry))))) ⌝ }
+    ensures { λ n. ⌜ (hasFeed (left r (now (bytes .entry))) ≡ true → RowRead (left r (now (bytes .entry))) (now (bytes .exit)) n (now (row .exit)) × (now (bytes .exit) ≡ now (bytes .entry))) ⌝ }
 {
     lines::next_line(r, bytes, row)
+}
+
+// Rows up to 256, each into its own three places, or up to the first line that is none. The contract gives those
+// that stand whole in the chunk.
+pub fn read_batch(r: Reader, bytes: &mut [u8], samples: &mut [i32]) -> Batch
+    requires { ⌜ Inside r (now bytes) × (768 ≤ length (now samples)) ⌝ }
+    ensures { λ b. ⌜ Inside (b .reader) (now (bytes .exit)) × (b .rows ≤ 256) ⌝ }
+    ensures { λ b. ⌜ BatchRead (found 256 (left r (now (bytes .entry)))) (now (bytes .exit)) b (now (samples .exit)) ⌝ }
+{
+    let mut reader = r;
+    let mut i = 0;
+    while i < 256 {
+        let at = 3 * i;
+        reader = next_row(reader, bytes, &mut samples[at..at + 3]);
+        if !is_row(reader) {
+            return Batch {
+                reader: reader,
+                rows: i,
+                going: false,
+            };
+        }
+        i += 1;
+    }
+    Batch {
+        reader: reader,
+        rows: i,
+        going: true,
+    }
 }
 
 // The first k rows of the answers, a line each; answers the place after them.
@@ -49,33 +76,7 @@ pub fn put_rows(answers: &[i32], k: usize, out: &mut [u8], at: usize) -> usize
     place
 }
 
-fn sum(total: u64, more: usize) -> u64
-    ensures { λ r. ⌜ r ≡ sumOf total more ⌝ }
-{
-    let n = more as u64;
-    if n <= u64::MAX - total {
-        total + n
-    } else {
-        u64::MAX
-    }
-}
-
-// A batch goes through the run, and its answers are written.
-pub fn run_batch(t: Tally, samples: &[i32], answers: &mut [i32], out: &mut [u8]) -> Tally
-    requires { ⌜ (length (now samples) ≤ 768) × (1024 ≤ length (now answers)) × (t .place + 12288 ≤ length (now out)) ⌝ }
-    ensures { λ n. ⌜ Batched (now (samples .entry)) (now (answers .entry)) (now (out .entry)) t n (now (out .exit)) ⌝ }
-{
-    let ran = rows::run(t.drive, samples, answers);
-    let drive = ran.drive;
-    let mut n = t;
-    n.drive = drive;
-    n.accepted = sum(t.accepted, ran.accepted);
-    n.clipped = sum(t.clipped, ran.clipped);
-    n.place = put_rows(answers, samples.len() / 3, out, t.place);
-    n
-}
-
-fn put_totals(accepted: u64, clipped: u64, out: &mut [u8], at: usize) -> usize
+pub fn put_totals(accepted: u64, clipped: u64, out: &mut [u8], at: usize) -> usize
     requires { ⌜ at + 56 ≤ length (now out) ⌝ }
     ensures { λ r. ⌜ (r ≡ at + length (totalsText accepted clipped)) × (now (out .exit) ≡ written (now (out .entry)) at (totalsText accepted clipped)) × (r ≤ at + 56) ⌝ }
 {
@@ -92,13 +93,4 @@ pub fn put_header(out: &mut [u8], at: usize) -> usize
     ensures { λ r. ⌜ (r ≡ at + length headerText) × (now (out .exit) ≡ written (now (out .entry)) at headerText) × (r ≤ at + 9) ⌝ }
 {
     lines::put_text(b"a b c no\n", out, at)
-}
-
-// What is written last, behind the answers that wait; answers the place after it.
-pub fn put_closing(r: Reader, t: Tally, out: &mut [u8]) -> usize
-    requires { ⌜ t .place + 81 ≤ length (now out) ⌝ }
-    ensures { λ n. ⌜ (n ≡ t .place + length (closingText r t)) × (now (out .exit) ≡ written (now (out .entry)) (t .place) (closingText r t)) × (n ≤ t .place + 81) ⌝ }
-{
-    let end = lines::put_end(r, out, t.place);
-    put_totals(t.accepted, t.clipped, out, end)
 }

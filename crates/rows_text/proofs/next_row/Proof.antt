@@ -1,7 +1,7 @@
 -- `rows_text::next_row` meets its contract: what `next_line` read, with room for three numbers, is told as the row that it means.
 -- Assumes nothing.
 use borrow.Author.Needs.{needs}
-use Rattle.rows_text.proofs.RowMeaning.{row-told}
+use Rattle.rows_text.proofs.RowMeaning.{row-read}
 use Rattle.rows_text.proofs.next_row.Statement.{statement}
 use Rattle.rows_text.proofs.next_row.Tie as tie
 
@@ -18,7 +18,7 @@ returns : tie.Need-returns
 returns c =
     let n = c .before .before .before in
     let e = n .next-line .ensures in
-    (e .0, λ f. row-told (e .1 f .0) (n .before .before .before .before .pre .1))
+    (e .0, λ f. let w = e .1 f in (row-read (w .0) (w .1) (n .before .before .before .before .pre .1), w .1))
 
 pub next-row-spec : {M : Type 1} → statement M
 next-row-spec = tie.close (tie.spec next-line-requires same-length same-length-2 returns)

@@ -4,7 +4,7 @@
 use mathlib.Core.Path.{_≡_}
 use native.Mathlib.Omega.{arith}
 use lib.ListN.{length}
-use Rattle.run_rows.specs.Room.{Ready}
+use Rattle.batches.specs.Passing.{Ready}
 use Rattle.run_rows.proofs.ran_rows.Statement.{statement}
 use Rattle.run_rows.proofs.ran_rows.Tie as tie
 

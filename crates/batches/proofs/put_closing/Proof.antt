@@ -1,11 +1,11 @@
--- `rows_text::put_closing` meets its contract: 81 places are room for a refused line and the totals.
+-- `batches::put_closing` meets its contract: 81 places are room for a refused line and the totals.
 -- Assumes nothing.
 use borrow.Author.Needs.{needs}
 use native.Mathlib.Omega.{arith}
 use Rattle.lines.proofs.TextLaws.{put, put-then}
-use Rattle.rows_text.specs.Texts.{closingText}
-use Rattle.rows_text.proofs.put_closing.Statement.{statement}
-use Rattle.rows_text.proofs.put_closing.Tie as tie
+use Rattle.batches.specs.Passing.{closingText}
+use Rattle.batches.proofs.put_closing.Statement.{statement}
+use Rattle.batches.proofs.put_closing.Tie as tie
 
 put-end-requires : tie.Need-put-end-requires
 put-end-requires c κs = search needs

@@ -1,11 +1,11 @@
--- `rows_text::run_batch` meets its contract: it is the run, and what the run wrote as text.
+-- `batches::run_batch` meets its contract: it is the run, and what the run wrote as text.
 -- Assumes nothing.
 use borrow.Author.Needs.{needs}
 use mathlib.Core.Path.{ap}
 use native.Mathlib.Omega.{arith}
 use Rattle.rows.specs.declared.Ran.{Ran}
-use Rattle.rows_text.proofs.run_batch.Statement.{statement}
-use Rattle.rows_text.proofs.run_batch.Tie as tie
+use Rattle.batches.proofs.run_batch.Statement.{statement}
+use Rattle.batches.proofs.run_batch.Tie as tie
 
 returns : tie.Need-returns
 returns c =

@@ -1,15 +1,20 @@
--- `run_rows::next_batch` is safe: so many samples are that many, and a batch leaves what waits in the output.
+-- `batches::next_batch` meets its contract: so many samples are that many, and a batch leaves what waits in the output.
 -- Assumes nothing.
 use borrow.Author.Needs.{needs}
 use mathlib.Core.Path.{sym}
 use Prim.Native.Nat.{_*_}
 use native.Mathlib.Omega.{arith}
 use lib.Seq.{length-take-le}
-use Rattle.run_rows.proofs.next_batch.Statement.{statement}
-use Rattle.run_rows.proofs.next_batch.Tie as tie
+use Rattle.batches.proofs.Passes.{passed}
+use Rattle.batches.proofs.next_batch.Statement.{statement}
+use Rattle.batches.proofs.next_batch.Tie as tie
 
 returns : tie.Need-returns
-returns c = search needs
+returns c =
+    let k = c .before .before .before .before .before in
+    let r = k .before .before .before .before .before .before .before .before .before in
+    let e = r .read-batch .ensures in
+    ((e .0 .0, omega arith), passed (c .flushed .result) (e .1) (k .run-batch .ensures))
 
 read-batch-requires : tie.Need-read-batch-requires
 read-batch-requires c κs = search needs

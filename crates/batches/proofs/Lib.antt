@@ -1,0 +1,2 @@
+pub mod TextInPieces
+pub mod Passes

@@ -1,0 +1,44 @@
+-- A batch from the chunk to the output: the buffers that it needs, what becomes of it, and what is written last.
+use mathlib.Core.Path.{_≡_}
+use Prim.Native.Nat.{ℕ, _+_, _≤_, min}
+use mathlib.Core.List.{List, _++_}
+use lib.IntN.{ℤ}
+use lib.ListN.{length}
+use Rattle.text.specs.Decimal.{written}
+use Rattle.lines.specs.declared.Reader.{Reader}
+use Rattle.lines.specs.Chunk.{Inside, endText}
+use Rattle.rows.specs.Rows.{rowsIn, runOf, outOf}
+use Rattle.rows_text.specs.Found.{Found}
+use Rattle.rows_text.specs.Texts.{rowsText, totalsText}
+use Rattle.batches.specs.declared.Tally.{Tally}
+use Rattle.batches.specs.declared.State.{State}
+
+-- a total and more; held at the end of 64 bits, which no input reaches
+abbrev pub sumOf : ℕ → ℕ → ℕ
+sumOf total more = min (total + more) 18446744073709551615
+
+-- what becomes of a batch of samples, over the answers before it and the output o
+pub record Batched (samples answers : List ℤ) (o : List ℕ) (t n : Tally) (out : List ℕ) : Type 0 where
+  pub drove : n .drive ≡ runOf (t .drive) samples answers .drive
+  pub steps : n .accepted ≡ sumOf (t .accepted) (runOf (t .drive) samples answers .accepted)
+  pub clips : n .clipped ≡ sumOf (t .clipped) (runOf (t .drive) samples answers .clipped)
+  pub wrote : out ≡ written o (t .place) (rowsText (outOf (t .drive) samples answers) (rowsIn samples))
+  pub place : n .place ≡ t .place + length (rowsText (outOf (t .drive) samples answers) (rowsIn samples))
+  pub near : n .place ≤ t .place + 12288
+
+-- buffers as large as a batch of 256 rows needs them: three samples, four answers and 48 bytes of output a row
+abbrev pub Ready : State → List ℕ → List ℤ → List ℤ → List ℕ → Type 0
+Ready s bytes samples answers out =
+    Inside (s .reader) bytes × (768 ≤ length samples) × (1024 ≤ length answers) × (s .tally .place + 12288 ≤ length out)
+
+-- what was found has gone through the run, and its answers are written, over the answers before it and the output o
+pub record Passed (f : Found) (answers : List ℤ) (o : List ℕ) (s n : State) (out : List ℕ) : Type 0 where
+  pub drove : n .tally .drive ≡ runOf (s .tally .drive) (f .samples) answers .drive
+  pub steps : n .tally .accepted ≡ sumOf (s .tally .accepted) (runOf (s .tally .drive) (f .samples) answers .accepted)
+  pub clips : n .tally .clipped ≡ sumOf (s .tally .clipped) (runOf (s .tally .drive) (f .samples) answers .clipped)
+  pub wrote : out ≡ written o (s .tally .place) (rowsText (outOf (s .tally .drive) (f .samples) answers) (rowsIn (f .samples)))
+  pub goes-on : n .going ≡ f .all-rows
+
+-- what is written where the reading stops: that a line is bad, unless the input was over, and the totals so far
+unfoldable pub closingText : Reader → Tally → List ℕ
+closingText r t = endText r ++ totalsText (t .accepted) (t .clipped)
