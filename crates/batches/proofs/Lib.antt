@@ -1,2 +1,3 @@
 pub mod TextInPieces
 pub mod Passes
+pub mod Example

@@ -1,6 +1,6 @@
 -- A batch that was found whole is what goes through the run.
 -- Assumes nothing.
-use mathlib.Core.Path.{_≡_, sym, _∙_, ap}
+use mathlib.Core.Path.{_≡_, refl, sym, _∙_, ap}
 use mathlib.Core.Bool.{true}
 use mathlib.Core.List.{List}
 use Prim.Native.Nat.{ℕ, _*_}
@@ -20,12 +20,4 @@ found-lent {f} {bytes} {b} {samples} r w = ap (λ (n : ℕ). take n samples) (sy
 pub passed : {f : Found} {bytes : List ℕ} {b : Batch} {samples answers : List ℤ} {o out : List ℕ} {s : State} {t : Tally} (place : ℕ) →
     BatchRead f bytes b samples → Batched (take (3 * b .rows) samples) answers o (s .tally) t out → f .whole ≡ true →
     Passed f answers o s (record { reader = b .reader; going = b .going; tally = record { drive = t .drive; accepted = t .accepted; clipped = t .clipped; place = place } }) out
-passed place r h w =
-    let e = found-lent r w in
-    record {
-      drove = rw e at (h .drove);
-      steps = rw e at (h .steps);
-      clips = rw e at (h .clips);
-      wrote = rw e at (h .wrote);
-      goes-on = r .goes-on w;
-    }
+passed {t} place r h w = record { tally = t; batched = rw (found-lent r w) at h; sent = refl; goes-on = r .goes-on w }

@@ -31,12 +31,15 @@ abbrev pub Ready : State → List ℕ → List ℤ → List ℤ → List ℕ →
 Ready s bytes samples answers out =
     Inside (s .reader) bytes × (768 ≤ length samples) × (1024 ≤ length answers) × (s .tally .place + 12288 ≤ length out)
 
--- what was found has gone through the run, and its answers are written, over the answers before it and the output o
+-- a tally whose bytes may have been sent: how many wait now is its own
+abbrev pub Sent : Tally → Tally → Type 0
+Sent t n = n ≡ record { drive = t .drive; accepted = t .accepted; clipped = t .clipped; place = n .place }
+
+-- what was found has become of the batch, over the answers before it and the output o; then what waits may have been sent
 pub record Passed (f : Found) (answers : List ℤ) (o : List ℕ) (s n : State) (out : List ℕ) : Type 0 where
-  pub drove : n .tally .drive ≡ runOf (s .tally .drive) (f .samples) answers .drive
-  pub steps : n .tally .accepted ≡ sumOf (s .tally .accepted) (runOf (s .tally .drive) (f .samples) answers .accepted)
-  pub clips : n .tally .clipped ≡ sumOf (s .tally .clipped) (runOf (s .tally .drive) (f .samples) answers .clipped)
-  pub wrote : out ≡ written o (s .tally .place) (rowsText (outOf (s .tally .drive) (f .samples) answers) (rowsIn (f .samples)))
+  pub tally : Tally
+  pub batched : Batched (f .samples) answers o (s .tally) tally out
+  pub sent : Sent tally (n .tally)
   pub goes-on : n .going ≡ f .all-rows
 
 -- what is written where the reading stops: that a line is bad, unless the input was over, and the totals so far

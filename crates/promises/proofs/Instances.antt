@@ -1,14 +1,12 @@
 -- No promise is empty: each hypothesis that a theorem of this crate makes is met, by the bench set from fresh or by a drive with it.
 -- Assumes nothing.
-use mathlib.Core.Path.{_≡_, refl, _∙_}
+use mathlib.Core.Path.{_≡_, refl}
 use mathlib.Core.Bool.{true, false}
 use mathlib.Core.List.{[], _∷_}
-use lib.Dec.{lit<}
 use lib.IntN.{ℤ, pos, _*ℤ_}
 use lib.Signed.{_<ℤ_, _≤ℤ_, ltZ-yes, leZ-yes}
 use Rattle.fixed.specs.Fixed.{down, held, modulo}
-use Rattle.sine.specs.Sine.{rootFrom, root, halved, cos2, cos1, sin1, turn, turned as turned-table, rising, half, sineEntry, indexOf, sineIn, cosineIn, sineAt, cosineAt}
-use Rattle.sine.proofs.Rule.{entry-at}
+use Rattle.sine.proofs.AtZero.{sine-at-0, cosine-at-0}
 use Rattle.regulator.specs.Regulator.{sumOf, outOf, nextOf, regulated}
 use Rattle.frames.specs.Frames.{clarke, park, inversePark}
 use Rattle.modulation.specs.Modulation.{entriesOf, bit, numberOf, rowAt, rowOf, timeOf, clippedTimes, timesOf, compareAt, placed, modulated}
@@ -78,22 +76,6 @@ unfolding AllAccepted
 waiting-accepts = (waiting-steps, tt)
 
 -- errors of either sign. At angle 0 the sine is 0 and the cosine 4096, so that d is ia; ib is chosen so that q is 0, or as large as it may be
-entry-0 : sineEntry 0 ≡ pos 0
-unfolding sineEntry half rising turned-table down
-entry-0 = refl
-
-entry-64 : sineEntry 64 ≡ pos 4096
-unfolding sineEntry half rising turned-table turn cos1 sin1 cos2 halved root rootFrom down
-entry-64 = refl
-
-sine-at-0 : sineAt (pos 0) ≡ pos 0
-unfolding sineAt sineIn indexOf down
-sine-at-0 = entry-at 0 (lit< tt) ∙ entry-0
-
-cosine-at-0 : cosineAt (pos 0) ≡ pos 4096
-unfolding cosineAt cosineIn indexOf down
-cosine-at-0 = entry-at 64 (lit< tt) ∙ entry-64
-
 pub d-negative : dError (waiting (pos 0)) (pos 3000) (pos 0) (pos 7) <ℤ pos 0
 unfolding dError seen turned commanded withCommand withTorque rampedBy thirtieth counted measured moved movement signed modulo down speedOf held weakened sizeOf currents clarke park waiting bench
 d-negative = rw (cosine-at-0, sine-at-0) (ltZ-yes tt)
