@@ -1,17 +1,24 @@
 -- A batch from the chunk to the output: the buffers that it needs, what becomes of it, and what is written last.
 use mathlib.Core.Path.{_≡_}
 use Prim.Native.Nat.{ℕ, _+_, _≤_, min}
+use mathlib.Core.Bool.{true}
 use mathlib.Core.List.{List, _++_}
 use lib.IntN.{ℤ}
 use lib.ListN.{length}
 use Rattle.text.specs.Decimal.{written}
 use Rattle.lines.specs.declared.Reader.{Reader}
-use Rattle.lines.specs.Chunk.{Inside, endText}
+use Rattle.lines.specs.Chunk.{atStart, Inside, endText, waiting}
+use Rattle.record.specs.declared.Drive.{Drive}
 use Rattle.rows.specs.Rows.{rowsIn, runOf, outOf}
 use Rattle.rows_text.specs.Found.{Found}
 use Rattle.rows_text.specs.Texts.{rowsText, totalsText}
 use Rattle.batches.specs.declared.Tally.{Tally}
 use Rattle.batches.specs.declared.State.{State}
+
+-- nothing is read yet of a run from d, and so many bytes wait
+abbrev pub startOf : Drive → ℕ → State
+startOf d place =
+    record { reader = atStart; going = true; tally = record { drive = d; accepted = 0; clipped = 0; place = place } }
 
 -- a total and more; held at the end of 64 bits, which no input reaches
 abbrev pub sumOf : ℕ → ℕ → ℕ
@@ -31,15 +38,15 @@ abbrev pub Ready : State → List ℕ → List ℤ → List ℤ → List ℕ →
 Ready s bytes samples answers out =
     Inside (s .reader) bytes × (768 ≤ length samples) × (1024 ≤ length answers) × (s .tally .place + 12288 ≤ length out)
 
--- a tally whose bytes may have been sent: how many wait now is its own
-abbrev pub Sent : Tally → Tally → Type 0
-Sent t n = n ≡ record { drive = t .drive; accepted = t .accepted; clipped = t .clipped; place = n .place }
+-- what waits is sent where there is no room for another batch in an output of so many places
+abbrev pub sentOf : Tally → ℕ → Tally
+sentOf t places = record { drive = t .drive; accepted = t .accepted; clipped = t .clipped; place = waiting 12288 places (t .place) }
 
--- what was found has become of the batch, over the answers before it and the output o; then what waits may have been sent
+-- what was found has become of the batch, over the answers before it and the output o; then what waits is sent, if need be
 pub record Passed (f : Found) (answers : List ℤ) (o : List ℕ) (s n : State) (out : List ℕ) : Type 0 where
   pub tally : Tally
   pub batched : Batched (f .samples) answers o (s .tally) tally out
-  pub sent : Sent tally (n .tally)
+  pub sent : n .tally ≡ sentOf tally (length out)
   pub goes-on : n .going ≡ f .all-rows
 
 -- what is written where the reading stops: that a line is bad, unless the input was over, and the totals so far

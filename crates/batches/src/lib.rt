@@ -6,7 +6,7 @@ ghost use lib.ListN.{length};
 ghost use Rattle.text.specs.Decimal.{written};
 ghost use Rattle.lines.specs.Chunk.{Inside, left};
 ghost use Rattle.rows_text.specs.Found.{found};
-ghost use Rattle.batches.specs.Passing.{sumOf, closingText, Ready, Batched, Passed};
+ghost use Rattle.batches.specs.Passing.{startOf, sumOf, closingText, Ready, Batched, Passed};
 use lines::Reader;
 use record::Drive;
 
@@ -23,6 +23,23 @@ pub struct State {
     pub reader: Reader,
     pub going: bool,
     pub tally: Tally,
+}
+
+// Nothing is read yet, and so many bytes wait.
+pub fn start(d: Drive, place: usize) -> State
+    ensures { λ s. ⌜ s ≡ startOf d place ⌝ }
+    ensures { λ s. ⌜ (s .reader .at ≡ 0) × (s .reader .size ≡ 0) × (s .tally .place ≡ place) ⌝ }
+{
+    State {
+        reader: lines::start(),
+        going: true,
+        tally: Tally {
+            drive: d,
+            accepted: 0,
+            clipped: 0,
+            place: place,
+        },
+    }
 }
 
 fn sum(total: u64, more: usize) -> u64

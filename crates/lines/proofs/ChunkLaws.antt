@@ -7,14 +7,14 @@ use mathlib.Core.List.{List, [], _∷_}
 use Prim.Native.Nat.{ℕ, _+_, _≤_, _<_}
 use native.Mathlib.Numerals.{add-one}
 use native.Mathlib.Omega.{arith}
-use borrow.Author.Tests.{ltb-true, lt-ltb, le-ltb}
+use borrow.Author.Tests.{ltb-true, lt-ltb, le-ltb, ne-eqb}
 use lib.Dec.{eqb}
 use lib.IntN.{ℤ}
 use lib.ListN.{length, getD, take, drop, length-take, length-drop, drop-of-length-le}
 use lib.Seq.{drop-cons}
 use Rattle.text.specs.declared.Line.{Line}
 use Rattle.text.specs.Automaton.{lineStart, lineNext, numbersNext, lineEnd, numbersEnd, Reading, readAll, readEnd, lineRead}
-use Rattle.lines.specs.Chunk.{reading, upToFeed, hasFeed, readOn, consumed, Fed, left, after, Whole}
+use Rattle.lines.specs.Chunk.{reading, upToFeed, hasFeed, readOn, consumed, Fed, after, endedOf, filledOf, left, Whole}
 use Rattle.lines.specs.declared.Reader.{Reader}
 
 -- ════ what stands from a place on
@@ -88,11 +88,34 @@ module _ (chunk : List ℕ) {at i : ℕ} (r : Reading) {l : Line} {ns : List ℤ
       (rw t e, rw t refl, rw t (omega arith))
 
 -- ════ a line in what is left of the chunk
--- nothing is left, and so no line feed
-pub no-feed : (bytes : List ℕ) (at size : ℕ) → size ≤ at → hasFeed (drop at (take size bytes)) ≡ true → ⊥
-no-feed bytes at size h t =
-    let b = drop at (take size bytes) in
-    omega (arith, ltb-true (length (upToFeed b)) (length b) t, length-drop at (take size bytes), length-take size bytes)
+-- where one is left, the chunk is not used up
+pub feed-left : (r : Reader) (bytes : List ℕ) → hasFeed (left r bytes) ≡ true → r .at < r .size
+feed-left r bytes t =
+    let b = left r bytes in
+    omega (arith, ltb-true (length (upToFeed b)) (length b) t, length-drop (r .at) (take (r .size) bytes), length-take (r .size) bytes)
+
+-- ════ the next chunk has so many bytes, or none
+pub filled-none : (r : Reader) (size : ℕ) → size ≡ 0 → record {
+  line = endedOf r .line;
+  number = r .number;
+  begun = r .begun;
+  «open» = false;
+  over = not (r .begun);
+  at = 0;
+  size = size;
+} ≡ filledOf r size
+filled-none r size e = rw e refl
+
+pub filled-some : (r : Reader) (size : ℕ) → (size ≡ 0 → ⊥) → record {
+  line = r .line;
+  number = r .number;
+  begun = r .begun;
+  «open» = r .«open»;
+  over = r .over;
+  at = 0;
+  size = size;
+} ≡ filledOf r size
+filled-some r size h = let e = ne-eqb size 0 h in rw e refl
 
 -- what a reader becomes that opens a line
 pub record Opened (r n : Reader) : Type 0 where

@@ -1,12 +1,27 @@
 // Lines of numbers from standard input, and text to standard output, in chunks: memory is constant, and no line has a system call of its
 // own.
 ghost use mathlib.Core.Path.{_≡_};
-ghost use mathlib.Core.Bool.{true, false, not, _&&_};
-ghost use Prim.Native.Nat.{_+_, _≤_};
+ghost use mathlib.Core.Bool.{true, not, _&&_};
+ghost use Prim.Native.Nat.{_+_, _≤_, _<_};
 ghost use lib.ListN.{length, drop};
-ghost use Rattle.text.specs.Automaton.{lineStart, readAll};
+ghost use Rattle.text.specs.Automaton.{readAll};
 ghost use Rattle.text.specs.Decimal.{written};
-ghost use Rattle.lines.specs.Chunk.{reading, upToFeed, hasFeed, Fed, Inside, left, after, Whole, badText, endText};
+ghost use Rattle.lines.specs.Chunk.{
+  reading,
+  upToFeed,
+  hasFeed,
+  Fed,
+  atStart,
+  after,
+  openedOf,
+  filledOf,
+  Inside,
+  left,
+  Whole,
+  badText,
+  endText,
+  waiting,
+};
 use libc::STDIN_FILENO;
 use libc::STDOUT_FILENO;
 use text::Line;
@@ -31,6 +46,7 @@ pub struct Reached {
 
 // Nothing is read yet.
 pub fn start() -> Reader
+    ensures { λ r. ⌜ r ≡ atStart ⌝ }
     ensures { λ r. ⌜ (r .at ≡ 0) × (r .size ≡ 0) ⌝ }
 {
     Reader {
@@ -57,7 +73,7 @@ fn next(number: u64) -> u64
 
 // The line after the one at hand, of which no byte came yet.
 fn opened(r: Reader) -> Reader
-    ensures { λ n. ⌜ (n .line ≡ lineStart) × (n .at ≡ r .at) × (n .size ≡ r .size) × (n .number ≡ after (r .number)) × (n .open ≡ true) × (n .over ≡ false) ⌝ }
+    ensures { λ n. ⌜ n ≡ openedOf r ⌝ }
 {
     let mut n = r;
     n.line = text::line_start();
@@ -107,7 +123,7 @@ fn fed_chunk(r: Reader, chunk: &[u8], numbers: &mut [i32]) -> Reader
 // The next chunk. Where there is none, the line at hand is refused for want of a line feed, or is none if no byte of it came. An error is
 // taken as the end of the input.
 fn filled(r: Reader, bytes: &mut [u8]) -> Reader
-    ensures { λ n. ⌜ Inside n (now (bytes .exit)) ⌝ }
+    ensures { λ n. ⌜ Inside n (now (bytes .exit)) × (n ≡ filledOf r (n .size)) ⌝ }
 {
     let got = libc::read(STDIN_FILENO, bytes);
     let size = io::count(got, bytes);
@@ -126,7 +142,8 @@ fn filled(r: Reader, bytes: &mut [u8]) -> Reader
 fn turn(r: Reader, bytes: &mut [u8], numbers: &mut [i32]) -> Reader
     requires { ⌜ Inside r (now bytes) ⌝ }
     ensures { λ n. ⌜ Inside n (now (bytes .exit)) ⌝ }
-    ensures { λ n. ⌜ (hasFeed (left r (now (bytes .entry))) ≡ true → Fed (left r (now (bytes .entry))) r (now (numbers .entry)) n (now (numbers .exit)) × (now (bytes .exit) ≡ now (bytes .entry))) ⌝ }
+    ensures { λ n. ⌜ (r .at < r .size → Fed (left r (now (bytes .entry))) r (now (numbers .entry)) n (now (numbers .exit)) × (now (bytes .exit) ≡ now (bytes .entry))) ⌝ }
+    ensures { λ n. ⌜ (r .size ≤ r .at → (n ≡ filledOf r (n .size)) × (now (numbers .exit) ≡ now (numbers .entry))) ⌝ }
 {
     let size = r.size;
     if r.at < size {
@@ -203,7 +220,7 @@ pub fn send(out: &[u8], place: usize)
 // What waits is sent where less room than asked is left, and not after each line.
 pub fn flushed(out: &[u8], place: usize, room: usize) -> usize
     requires { ⌜ (place ≤ length (now out)) × (room ≤ length (now out)) ⌝ }
-    ensures { λ r. ⌜ r + room ≤ length (now (out .entry)) ⌝ }
+    ensures { λ r. ⌜ (r ≡ waiting room (length (now (out .entry))) place) × (r + room ≤ length (now (out .entry))) ⌝ }
 {
     if room <= out.len() - place {
         return place;

@@ -1,6 +1,6 @@
 -- The ladders of numbers, over the tests alone: which number comes out says which test was the first to decide, and the other way round.
 -- Assumes nothing.
-use mathlib.Core.Path.{_≡_, refl, subst}
+use mathlib.Core.Path.{_≡_, refl, sym, subst}
 use mathlib.Core.Bool.{Bool, true, false, not, cond, true≢false, false≢true}
 use mathlib.Core.Logic.{_↔_}
 use Prim.Native.Nat.{ℕ}
@@ -25,11 +25,11 @@ settingsNumber a b c d e = unless a (pos 1) (unless b (pos 2) (unless c (pos 3) 
 
 pub settings-1 : (a b c d e : Bool) → (settingsNumber a b c d e ≡ pos 1) ↔ (a ≡ false)
 settings-1 false b c d e = (λ h. refl, λ h. refl)
-settings-1 true false c d e = (λ h. differ 2 1 tt h, λ h. absurd (true≢false (h)))
-settings-1 true true false d e = (λ h. differ 3 1 tt h, λ h. absurd (true≢false (h)))
-settings-1 true true true false e = (λ h. differ 4 1 tt h, λ h. absurd (true≢false (h)))
-settings-1 true true true true false = (λ h. differ 5 1 tt h, λ h. absurd (true≢false (h)))
-settings-1 true true true true true = (λ h. differ 0 1 tt h, λ h. absurd (true≢false (h)))
+settings-1 true false c d e = (λ h. differ 2 1 tt h, λ h. absurd (true≢false h))
+settings-1 true true false d e = (λ h. differ 3 1 tt h, λ h. absurd (true≢false h))
+settings-1 true true true false e = (λ h. differ 4 1 tt h, λ h. absurd (true≢false h))
+settings-1 true true true true false = (λ h. differ 5 1 tt h, λ h. absurd (true≢false h))
+settings-1 true true true true true = (λ h. differ 0 1 tt h, λ h. absurd (true≢false h))
 
 pub settings-2 : (a b c d e : Bool) → (settingsNumber a b c d e ≡ pos 2) ↔ ((a ≡ true) × (b ≡ false))
 settings-2 false b c d e = (λ h. differ 1 2 tt h, λ h. absurd (false≢true (h .0)))
@@ -71,96 +71,109 @@ settings-0 true true true false e = (λ h. differ 4 0 tt h, λ h. absurd (false�
 settings-0 true true true true false = (λ h. differ 5 0 tt h, λ h. absurd (false≢true (h .4)))
 settings-0 true true true true true = (λ h. (refl, refl, refl, refl, refl), λ h. refl)
 
--- a step: broken, tripped, samples good
+-- ════ a call: broken, tripped, and then a test that gives 0, or else its own number, which is none of the others
+module _ (own : ℕ) (u : T (not (eqb own 14))) (v : T (not (eqb own 7))) (w : T (not (eqb own 0))) where
+  abbrev callNumber : Bool → Bool → Bool → ℤ
+  callNumber b t s = cond b (pos 14) (cond t (pos 7) (cond s (pos 0) (pos own)))
+
+  call-14 : (b t s : Bool) → (callNumber b t s ≡ pos 14) ↔ (b ≡ true)
+  call-14 true t s = (λ h. refl, λ h. refl)
+  call-14 false true s = (λ h. differ 7 14 tt h, λ h. absurd (false≢true h))
+  call-14 false false true = (λ h. differ 0 14 tt h, λ h. absurd (false≢true h))
+  call-14 false false false = (λ h. differ own 14 u h, λ h. absurd (false≢true h))
+
+  call-7 : (b t s : Bool) → (callNumber b t s ≡ pos 7) ↔ ((b ≡ false) × (t ≡ true))
+  call-7 true t s = (λ h. differ 14 7 tt h, λ h. absurd (true≢false (h .0)))
+  call-7 false true s = (λ h. (refl, refl), λ h. refl)
+  call-7 false false true = (λ h. differ 0 7 tt h, λ h. absurd (false≢true (h .1)))
+  call-7 false false false = (λ h. differ own 7 v h, λ h. absurd (false≢true (h .1)))
+
+  call-0 : (b t s : Bool) → (callNumber b t s ≡ pos 0) ↔ ((b ≡ false) × (t ≡ false) × (s ≡ true))
+  call-0 true t s = (λ h. differ 14 0 tt h, λ h. absurd (true≢false (h .0)))
+  call-0 false true s = (λ h. differ 7 0 tt h, λ h. absurd (true≢false (h .1)))
+  call-0 false false true = (λ h. (refl, refl, refl), λ h. refl)
+  call-0 false false false = (λ h. differ own 0 w h, λ h. absurd (false≢true (h .2)))
+
+  call-own : (b t s : Bool) → (callNumber b t s ≡ pos own) ↔ ((b ≡ false) × (t ≡ false) × (s ≡ false))
+  call-own true t s = (λ h. differ own 14 u (sym h), λ h. absurd (true≢false (h .0)))
+  call-own false true s = (λ h. differ own 7 v (sym h), λ h. absurd (true≢false (h .1)))
+  call-own false false true = (λ h. differ own 0 w (sym h), λ h. absurd (true≢false (h .2)))
+  call-own false false false = (λ h. (refl, refl, refl), λ h. refl)
+
+-- a step: its own number, where the samples are not good, is 6
 abbrev pub stepNumber : Bool → Bool → Bool → ℤ
-stepNumber b t s = cond b (pos 14) (cond t (pos 7) (cond s (pos 0) (pos 6)))
+stepNumber b t s = callNumber 6 tt tt tt b t s
 
 pub step-14 : (b t s : Bool) → (stepNumber b t s ≡ pos 14) ↔ (b ≡ true)
-step-14 true t s = (λ h. refl, λ h. refl)
-step-14 false true s = (λ h. differ 7 14 tt h, λ h. absurd (false≢true (h)))
-step-14 false false true = (λ h. differ 0 14 tt h, λ h. absurd (false≢true (h)))
-step-14 false false false = (λ h. differ 6 14 tt h, λ h. absurd (false≢true (h)))
+step-14 = call-14 6 tt tt tt
 
 pub step-7 : (b t s : Bool) → (stepNumber b t s ≡ pos 7) ↔ ((b ≡ false) × (t ≡ true))
-step-7 true t s = (λ h. differ 14 7 tt h, λ h. absurd (true≢false (h .0)))
-step-7 false true s = (λ h. (refl, refl), λ h. refl)
-step-7 false false true = (λ h. differ 0 7 tt h, λ h. absurd (false≢true (h .1)))
-step-7 false false false = (λ h. differ 6 7 tt h, λ h. absurd (false≢true (h .1)))
+step-7 = call-7 6 tt tt tt
 
 pub step-0 : (b t s : Bool) → (stepNumber b t s ≡ pos 0) ↔ ((b ≡ false) × (t ≡ false) × (s ≡ true))
-step-0 true t s = (λ h. differ 14 0 tt h, λ h. absurd (true≢false (h .0)))
-step-0 false true s = (λ h. differ 7 0 tt h, λ h. absurd (true≢false (h .1)))
-step-0 false false true = (λ h. (refl, refl, refl), λ h. refl)
-step-0 false false false = (λ h. differ 6 0 tt h, λ h. absurd (false≢true (h .2)))
+step-0 = call-0 6 tt tt tt
 
 pub step-6 : (b t s : Bool) → (stepNumber b t s ≡ pos 6) ↔ ((b ≡ false) × (t ≡ false) × (s ≡ false))
-step-6 true t s = (λ h. differ 14 6 tt h, λ h. absurd (true≢false (h .0)))
-step-6 false true s = (λ h. differ 7 6 tt h, λ h. absurd (true≢false (h .1)))
-step-6 false false true = (λ h. differ 0 6 tt h, λ h. absurd (true≢false (h .2)))
-step-6 false false false = (λ h. (refl, refl, refl), λ h. refl)
+step-6 = call-own 6 tt tt tt
 
--- a target: broken, tripped, within its range
+-- a target: its own number, where it is out of its range, is 8
 abbrev pub targetNumber : Bool → Bool → Bool → ℤ
-targetNumber b t w = cond b (pos 14) (cond t (pos 7) (cond w (pos 0) (pos 8)))
+targetNumber b t w = callNumber 8 tt tt tt b t w
 
 pub target-14 : (b t w : Bool) → (targetNumber b t w ≡ pos 14) ↔ (b ≡ true)
-target-14 true t w = (λ h. refl, λ h. refl)
-target-14 false true w = (λ h. differ 7 14 tt h, λ h. absurd (false≢true (h)))
-target-14 false false true = (λ h. differ 0 14 tt h, λ h. absurd (false≢true (h)))
-target-14 false false false = (λ h. differ 8 14 tt h, λ h. absurd (false≢true (h)))
+target-14 = call-14 8 tt tt tt
 
 pub target-7 : (b t w : Bool) → (targetNumber b t w ≡ pos 7) ↔ ((b ≡ false) × (t ≡ true))
-target-7 true t w = (λ h. differ 14 7 tt h, λ h. absurd (true≢false (h .0)))
-target-7 false true w = (λ h. (refl, refl), λ h. refl)
-target-7 false false true = (λ h. differ 0 7 tt h, λ h. absurd (false≢true (h .1)))
-target-7 false false false = (λ h. differ 8 7 tt h, λ h. absurd (false≢true (h .1)))
+target-7 = call-7 8 tt tt tt
 
 pub target-0 : (b t w : Bool) → (targetNumber b t w ≡ pos 0) ↔ ((b ≡ false) × (t ≡ false) × (w ≡ true))
-target-0 true t w = (λ h. differ 14 0 tt h, λ h. absurd (true≢false (h .0)))
-target-0 false true w = (λ h. differ 7 0 tt h, λ h. absurd (true≢false (h .1)))
-target-0 false false true = (λ h. (refl, refl, refl), λ h. refl)
-target-0 false false false = (λ h. differ 8 0 tt h, λ h. absurd (false≢true (h .2)))
+target-0 = call-0 8 tt tt tt
 
 pub target-8 : (b t w : Bool) → (targetNumber b t w ≡ pos 8) ↔ ((b ≡ false) × (t ≡ false) × (w ≡ false))
-target-8 true t w = (λ h. differ 14 8 tt h, λ h. absurd (true≢false (h .0)))
-target-8 false true w = (λ h. differ 7 8 tt h, λ h. absurd (true≢false (h .1)))
-target-8 false false true = (λ h. differ 0 8 tt h, λ h. absurd (true≢false (h .2)))
-target-8 false false false = (λ h. (refl, refl, refl), λ h. refl)
+target-8 = call-own 8 tt tt tt
 
--- a clear: broken, tripped
+-- ════ broken, and then a test that gives 0, or else its own number
+module _ (own : ℕ) (u : T (not (eqb own 14))) (v : T (not (eqb own 0))) where
+  abbrev shortNumber : Bool → Bool → ℤ
+  shortNumber b s = cond b (pos 14) (cond s (pos 0) (pos own))
+
+  short-14 : (b s : Bool) → (shortNumber b s ≡ pos 14) ↔ (b ≡ true)
+  short-14 true s = (λ h. refl, λ h. refl)
+  short-14 false true = (λ h. differ 0 14 tt h, λ h. absurd (false≢true h))
+  short-14 false false = (λ h. differ own 14 u h, λ h. absurd (false≢true h))
+
+  short-0 : (b s : Bool) → (shortNumber b s ≡ pos 0) ↔ ((b ≡ false) × (s ≡ true))
+  short-0 true s = (λ h. differ 14 0 tt h, λ h. absurd (true≢false (h .0)))
+  short-0 false true = (λ h. (refl, refl), λ h. refl)
+  short-0 false false = (λ h. differ own 0 v h, λ h. absurd (false≢true (h .1)))
+
+  short-own : (b s : Bool) → (shortNumber b s ≡ pos own) ↔ ((b ≡ false) × (s ≡ false))
+  short-own true s = (λ h. differ own 14 u (sym h), λ h. absurd (true≢false (h .0)))
+  short-own false true = (λ h. differ own 0 v (sym h), λ h. absurd (true≢false (h .1)))
+  short-own false false = (λ h. (refl, refl), λ h. refl)
+
+-- a clear: 10 where the drive is not tripped
 abbrev pub clearNumber : Bool → Bool → ℤ
-clearNumber b t = cond b (pos 14) (cond t (pos 0) (pos 10))
+clearNumber b t = shortNumber 10 tt tt b t
 
 pub clear-14 : (b t : Bool) → (clearNumber b t ≡ pos 14) ↔ (b ≡ true)
-clear-14 true t = (λ h. refl, λ h. refl)
-clear-14 false true = (λ h. differ 0 14 tt h, λ h. absurd (false≢true (h)))
-clear-14 false false = (λ h. differ 10 14 tt h, λ h. absurd (false≢true (h)))
+clear-14 = short-14 10 tt tt
 
 pub clear-0 : (b t : Bool) → (clearNumber b t ≡ pos 0) ↔ ((b ≡ false) × (t ≡ true))
-clear-0 true t = (λ h. differ 14 0 tt h, λ h. absurd (true≢false (h .0)))
-clear-0 false true = (λ h. (refl, refl), λ h. refl)
-clear-0 false false = (λ h. differ 10 0 tt h, λ h. absurd (false≢true (h .1)))
+clear-0 = short-0 10 tt tt
 
 pub clear-10 : (b t : Bool) → (clearNumber b t ≡ pos 10) ↔ ((b ≡ false) × (t ≡ false))
-clear-10 true t = (λ h. differ 14 10 tt h, λ h. absurd (true≢false (h .0)))
-clear-10 false true = (λ h. differ 0 10 tt h, λ h. absurd (true≢false (h .1)))
-clear-10 false false = (λ h. (refl, refl), λ h. refl)
+clear-10 = short-own 10 tt tt
 
--- a run: broken, rows fit
+-- a run: 9 where the rows do not fit
 abbrev pub runNumber : Bool → Bool → ℤ
-runNumber b f = cond b (pos 14) (cond f (pos 0) (pos 9))
+runNumber b f = shortNumber 9 tt tt b f
 
 pub run-14 : (b f : Bool) → (runNumber b f ≡ pos 14) ↔ (b ≡ true)
-run-14 true f = (λ h. refl, λ h. refl)
-run-14 false true = (λ h. differ 0 14 tt h, λ h. absurd (false≢true (h)))
-run-14 false false = (λ h. differ 9 14 tt h, λ h. absurd (false≢true (h)))
+run-14 = short-14 9 tt tt
 
 pub run-0 : (b f : Bool) → (runNumber b f ≡ pos 0) ↔ ((b ≡ false) × (f ≡ true))
-run-0 true f = (λ h. differ 14 0 tt h, λ h. absurd (true≢false (h .0)))
-run-0 false true = (λ h. (refl, refl), λ h. refl)
-run-0 false false = (λ h. differ 9 0 tt h, λ h. absurd (false≢true (h .1)))
+run-0 = short-0 9 tt tt
 
 pub run-9 : (b f : Bool) → (runNumber b f ≡ pos 9) ↔ ((b ≡ false) × (f ≡ false))
-run-9 true f = (λ h. differ 14 9 tt h, λ h. absurd (true≢false (h .0)))
-run-9 false true = (λ h. differ 0 9 tt h, λ h. absurd (true≢false (h .1)))
-run-9 false false = (λ h. (refl, refl), λ h. refl)
+run-9 = short-own 9 tt tt

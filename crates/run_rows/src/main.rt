@@ -1,12 +1,9 @@
 // Rows as text, through a run with the bench set: each line of standard input is one row of samples, each line of standard output its three
 // compares and its number. Rows go through the run in batches, so that the record is tested and the sine table made once for many rows.
-ghost use mathlib.Core.Path.{_≡_};
 ghost use Prim.Native.Nat.{_+_, _≤_};
 ghost use lib.ListN.{length};
 ghost use Rattle.batches.specs.Passing.{Ready};
 use batches::State;
-use batches::Tally;
-use record::Drive;
 
 // A proved loop has to end, and nothing says that the input does: so the turns are counted, from a number that no run uses up.
 fn ran_rows(
@@ -28,22 +25,6 @@ fn ran_rows(
     n
 }
 
-// Nothing is read yet, and the header waits.
-fn start(d: Drive, place: usize) -> State
-    ensures { λ s. ⌜ (s .reader .at ≡ 0) × (s .reader .size ≡ 0) × (s .tally .place ≡ place) ⌝ }
-{
-    State {
-        reader: lines::start(),
-        going: true,
-        tally: Tally {
-            drive: d,
-            accepted: 0,
-            clipped: 0,
-            place: place,
-        },
-    }
-}
-
 fn main() {
     let drive::Made::Ready(d) = drive::make(record::bench()) else {
         return;
@@ -54,7 +35,7 @@ fn main() {
     let mut out = io::large_buffer();
     let header = rows_text::put_header(&mut out, 0);
     let s = ran_rows(
-        start(d, header),
+        batches::start(d, header),
         &mut bytes,
         &mut samples,
         &mut answers,

@@ -17,7 +17,7 @@ returns c =
     let s = f .before .before .before in
     let a = s .args in
     let w = line-ended (now (a .chunk)) (reading (a .r .line) (now (a .numbers))) (s .pre) (f .fed .ensures .0) (f .fed .ensures .1) (t .if1 .taken) (e .line-end .ensures .0) (e .line-end .ensures .1) in
-    (record { became = w .0; still-open = w .1; place = w .2; sized = refl; numbered = refl; there = refl }, omega arith)
+    (record { became = w .0; still-open = w .1; place = w .2; sized = refl; numbered = refl; there = refl; begun-now = refl }, omega arith)
 
 returns-2 : tie.Need-returns-2
 returns-2 c =
@@ -25,7 +25,7 @@ returns-2 c =
     let s = f .before .before .before in
     let a = s .args in
     let w = line-left (now (a .chunk)) (reading (a .r .line) (now (a .numbers))) (s .pre) (f .fed .ensures .0) (f .fed .ensures .1) (c .if1 .left) in
-    (record { became = w .0; still-open = w .1; place = w .2; sized = refl; numbered = refl; there = refl }, f .fed .ensures .2)
+    (record { became = w .0; still-open = w .1; place = w .2; sized = refl; numbered = refl; there = refl; begun-now = refl }, f .fed .ensures .2)
 
 fed-requires : tie.Need-fed-requires
 fed-requires c κs = search needs

@@ -7,7 +7,7 @@ use Prim.Native.Nat.{_≤_}
 use native.Mathlib.Omega.{arith}
 use lib.ListN.{length}
 use Rattle.lines.specs.declared.Reader.{Reader}
-use Rattle.lines.proofs.ChunkLaws.{Opened, Underway, underway-on, underway-whole}
+use Rattle.lines.proofs.ChunkLaws.{feed-left, Opened, Underway, underway-on, underway-whole}
 use Rattle.lines.proofs.next_line.Statement.{statement}
 use Rattle.lines.proofs.next_line.Tie as tie
 
@@ -22,7 +22,14 @@ abbrev μ-loop : tie.MeasureT-loop
 opens : (c : tie.After-opened Inv-loop μ-loop) → Opened (c .before .before .args .r) (c .opened .result)
 opens c =
     let e = c .opened .ensures in
-    record { fresh = e .0; place = e .1; sized = e .2; numbered = e .3; is-open = e .4; there = e .5 }
+    record {
+      fresh = ap (λ (r : Reader). r .line) e;
+      place = ap (λ (r : Reader). r .at) e;
+      sized = ap (λ (r : Reader). r .size) e;
+      numbered = ap (λ (r : Reader). r .number) e;
+      is-open = ap (λ (r : Reader). r .open) e;
+      there = ap (λ (r : Reader). r .over) e;
+    }
 
 returns : tie.Need-returns Inv-loop μ-loop
 returns c =
@@ -48,7 +55,7 @@ loop-again c =
     let a = c .before .before .before in
     let t = a .before .before .before in
     let i = t .before .before .loop .inv in
-    (omega arith, omega arith, a .turn .ensures .0 .0, omega arith, underway-on (i .4) (t .if1 .taken) (a .turn .ensures .1))
+    (omega arith, omega arith, a .turn .ensures .0 .0, omega arith, underway-on (i .4) (t .if1 .taken) (λ f. a .turn .ensures .1 .0 (feed-left (t .before .before .loop .n) (t .before .before .loop .bytes) f)))
 
 loop-less : tie.Need-loop-less Inv-loop μ-loop
 loop-less c = omega arith
