@@ -7,10 +7,10 @@ use native.Mathlib.Omega.{arith}
 use lib.Dec.{lit<}
 use lib.IntN.{ℤ, pos, negℤ, natAbs, _+ℤ_, _-ℤ_, _*ℤ_}
 use lib.Signed.{_≤ℤ_, _<ℤ_, ltZ, ltZ-yes}
-use Rattle.fixed.specs.Fixed.{down, held}
+use Rattle.fixed.specs.Fixed.{down, held, Between}
 use Rattle.fixed.proofs.Parts.{order, diffs, is-diff, cond-ind, parts-+, parts--, parts-*}
 use Rattle.fixed.proofs.Ring.{*-nonneg, gap-up, gap-down}
-use Rattle.fixed.proofs.Between.{Between, between-size}
+use Rattle.fixed.proofs.Between.{between-size}
 use Rattle.fixed.proofs.DownLaws.{down-low-parts, down-high-parts, modulo-lo, modulo-hi}
 use Rattle.fixed.proofs.HeldLaws.{held-size, if-less, if-not-less}
 use Rattle.field.specs.Field.{fluxNext, slip, angleNext}

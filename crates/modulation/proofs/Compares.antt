@@ -4,10 +4,10 @@
 -- Assumes nothing.
 use mathlib.Core.Path.{_≡_, sym, _∙_}
 use mathlib.Core.Bool.{false}
-use Prim.Native.Nat.{ℕ, zero, suc, _<_}
+use Prim.Native.Nat.{ℕ, zero, suc}
 use native.Mathlib.Omega.{arith}
 use lib.Dec.{lit<}
-use lib.IntN.{ℤ, pos, negℤ, natAbs, _+ℤ_, _-ℤ_, _*ℤ_}
+use lib.IntN.{ℤ, pos, negℤ, _+ℤ_, _-ℤ_, _*ℤ_}
 use lib.Signed.{_≤ℤ_, _<ℤ_, ltZ-yes}
 use Rattle.fixed.specs.Fixed.{down}
 use Rattle.fixed.proofs.Parts.{order, diffs, is-diff, parts-+, parts--, P-neg, N-neg}
@@ -16,7 +16,7 @@ use Rattle.fixed.proofs.Size.{abs←}
 use Rattle.fixed.proofs.DownLaws.{down-low, down-high, down-low-parts, down-high-parts, le-down}
 use Rattle.modulation.specs.declared.Row.{Row}
 use Rattle.modulation.specs.declared.Times.{Times}
-use Rattle.modulation.specs.Modulation.{A, B, entriesOf, rowOf, timeOf, timesOf, compareAt, placed, modulated, Room}
+use Rattle.modulation.specs.Modulation.{A, B, entriesOf, rowOf, timeOf, timesOf, compareAt, placed, modulated, InPeriod, AllInPeriod, on, Near, AsAsked, Room}
 use Rattle.modulation.proofs.Sectors.{level, serves}
 use Rattle.modulation.proofs.Clipping.{Kept, kept, clipped-room}
 
@@ -35,10 +35,6 @@ unfolding timesOf
 times-room t va vb h = clipped-room t _ _ h (times-up t va vb h .0) (times-up t va vb h .1)
 
 -- ════ the compares lie within 0..T
-pub record InPeriod (t z : ℤ) : Type 0 where
-  pub lo : pos 0 ≤ℤ z
-  pub hi : z ≤ℤ t
-
 -- the first, the second and the third of them
 all-within : (t : ℤ) (h : Times) → Room t h → InPeriod t (compareAt 0 t (h .t1) (h .t2)) × InPeriod t (compareAt 1 t (h .t1) (h .t2)) × InPeriod t (compareAt 2 t (h .t1) (h .t2))
 unfolding compareAt
@@ -55,7 +51,7 @@ compare-within zero t h r = all-within t h r .0
 compare-within (suc zero) t h r = all-within t h r .1
 compare-within (suc (suc k)) t h r = all-within t h r .2
 
-pub compares-within : (t va vb : ℤ) → pos 0 ≤ℤ t → InPeriod t (modulated t va vb .a) × InPeriod t (modulated t va vb .b) × InPeriod t (modulated t va vb .c)
+pub compares-within : (t va vb : ℤ) → pos 0 ≤ℤ t → AllInPeriod t (modulated t va vb)
 unfolding modulated placed
 compares-within t va vb h =
     let r = rowOf (entriesOf va vb) in
@@ -63,14 +59,6 @@ compares-within t va vb h =
     (compare-within (r .a) t (timesOf t r) m, compare-within (r .b) t (timesOf t r) m, compare-within (r .c) t (timesOf t r) m)
 
 -- ════ unclipped, the on-times differ by what the voltage asks
--- the on-time of a phase whose compare is z
-abbrev pub on : ℤ → ℤ → ℤ
-on t z = t -ℤ z
-
--- u is less than 2 counts from t·d/2^24, in whole numbers: 2^24·u is less than 2·2^24 from t·d
-pub record Near (t u d : ℤ) : Type 0 where
-  pub near : natAbs (pos 16777216 *ℤ u -ℤ t *ℤ d) < 33554432
-
 abbrev unit : ℕ
 unit = 16777216
 
@@ -124,10 +112,7 @@ pair t r h i j {d} w e =
     let a = apart t (compareAt i t m n) (compareAt j t m n) (level i r) (level j r) (sum 0 t r) (sum-close i t r) (sum-close j t r) in
     rw (w .one, w .two, sym e) (record { near = omega (arith, abs← 33554431 _ (a .0) (a .1)) })
 
-pub on-times : (t va vb : ℤ) → modulated t va vb .clipped ≡ false
-    → Near t (on t (modulated t va vb .a) -ℤ on t (modulated t va vb .b)) (A va -ℤ B vb)
-    × Near t (on t (modulated t va vb .b) -ℤ on t (modulated t va vb .c)) (pos 2 *ℤ B vb)
-    × Near t (on t (modulated t va vb .a) -ℤ on t (modulated t va vb .c)) (A va +ℤ B vb)
+pub on-times : (t va vb : ℤ) → modulated t va vb .clipped ≡ false → AsAsked t va vb (modulated t va vb)
 unfolding modulated placed timesOf entriesOf
 on-times t va vb e =
     let r = rowOf (entriesOf va vb) in

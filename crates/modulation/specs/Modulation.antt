@@ -1,5 +1,5 @@
 -- Space-vector modulation, as document 01 has it under "Modulation": from a voltage (vα, vβ) and a period T to three compares.
-use Prim.Native.Nat.{ℕ, zero, suc, _+_, _≤_}
+use Prim.Native.Nat.{ℕ, zero, suc, _+_, _≤_, _<_}
 use mathlib.Core.Bool.{true, false, cond}
 use mathlib.Core.List.{List, [], _∷_}
 use lib.IntN.{ℤ, pos, negℤ, natAbs, _+ℤ_, _-ℤ_, _*ℤ_}
@@ -112,7 +112,31 @@ placed t r h =
 unfoldable pub modulated : ℤ → ℤ → ℤ → Pulses
 modulated t va vb = placed t (rowOf (entriesOf va vb)) (timesOf t (rowOf (entriesOf va vb)))
 
--- what the code asks of its numbers
+-- ════ what is promised of the pulses
+-- a compare z within 0..T, and all three
+pub record InPeriod (t z : ℤ) : Type 0 where
+  pub lo : pos 0 ≤ℤ z
+  pub hi : z ≤ℤ t
+
+abbrev pub AllInPeriod : ℤ → Pulses → Type 0
+AllInPeriod t p = InPeriod t (p .a) × InPeriod t (p .b) × InPeriod t (p .c)
+
+-- the on-time of a phase whose compare is z
+abbrev pub on : ℤ → ℤ → ℤ
+on t z = t -ℤ z
+
+-- u is less than 2 counts from t·d/2^24, in whole numbers: 2^24·u is less than 2·2^24 from t·d
+pub record Near (t u d : ℤ) : Type 0 where
+  pub near : natAbs (pos 16777216 *ℤ u -ℤ t *ℤ d) < 33554432
+
+-- the on-time differences a − b, b − c and a − c are near A − B, 2B and A + B
+abbrev pub AsAsked : ℤ → ℤ → ℤ → Pulses → Type 0
+AsAsked t va vb p =
+    Near t (on t (p .a) -ℤ on t (p .b)) (A va -ℤ B vb)
+    × Near t (on t (p .b) -ℤ on t (p .c)) (pos 2 *ℤ B vb)
+    × Near t (on t (p .a) -ℤ on t (p .c)) (A va +ℤ B vb)
+
+-- ════ what the code asks of its numbers
 pub record Period (t : ℤ) : Type 0 where
   pub up : pos 0 ≤ℤ t
   pub size : natAbs t ≤ longest

@@ -1,25 +1,26 @@
 -- Demand 1, the table of numbers: each number is given exactly when its row says, with the order of precedence, and what the drive, the
 -- compares and the output lent to a run are then. For make, step, target, clear and run.
 -- Assumes nothing.
-use mathlib.Core.Path.{_≡_, refl, sym, _∙_}
+use mathlib.Core.Path.{_≡_, refl, sym, _∙_, subst}
 use mathlib.Core.Bool.{Bool, true, false, cond}
-use mathlib.Core.List.{List}
+use mathlib.Core.List.{List, _++_}
 use mathlib.Core.Logic.{_↔_}
-use Prim.Native.Nat.{ℕ, zero, suc}
+use Prim.Native.Nat.{ℕ, zero, suc, _*_}
 use lib.IntN.{ℤ, pos}
-use lib.ListN.{length}
+use lib.ListN.{length, drop}
 use lib.Signed.{leZ}
 use Rattle.record.specs.declared.Settings.{Settings}
 use Rattle.record.specs.declared.Drive.{Drive}
 use Rattle.record.specs.Record.{periodOk, gainsOk, gainsTied, limitsOk, restOk, refusal, accepted, inside, broken}
-use Rattle.drive.specs.declared.Made.{Made}
 use Rattle.drive.specs.declared.Made.the-variants.{Ready, Refused}
 use Rattle.drive.specs.declared.Stepped.{Stepped}
 use Rattle.drive.specs.declared.Answered.{Answered}
 use Rattle.drive.specs.Step.{driven, pulsed, outcome, advanced}
 use Rattle.drive.specs.Calls.{fresh, made, numberOf, sampleOk, tripped, refused, taken, stepped, aimed, with, targeted, cleared}
 use Rattle.rows.specs.declared.Ran.{Ran}
-use Rattle.rows.specs.Rows.{none, afterRow, ranOf, rowsIn, rowsFit, runOf, outOf}
+use Rattle.rows.specs.Rows.{none, afterRow, ranOf, writtenOf, rowsIn, rowsFit, runOf, outOf}
+use Rattle.rows.proofs.Outcomes as outcomes
+use Rattle.promises.specs.Words.{Free}
 use Rattle.promises.proofs.Ladders as ladder
 
 -- what holds of a number under one name holds of it under another
@@ -67,6 +68,10 @@ module _ (s : Settings) where
   pub make-0 : (made-number ≡ pos 0) ↔ ((periodOk s ≡ true) × (gainsOk s ≡ true) × (gainsTied s ≡ true) × (limitsOk s ≡ true) × (restOk s ≡ true))
   make-0 = same number-made (ladder.settings-0 (periodOk s) (gainsOk s) (gainsTied s) (limitsOk s) (restOk s))
 
+  -- and no other: 11 to 13 are kept free
+  pub make-free : Free made-number
+  make-free = subst Free (sym number-made) (ladder.settings-free (periodOk s) (gainsOk s) (gainsTied s) (limitsOk s) (restOk s))
+
   -- accepted, it is the fresh drive; refused, it is a number and no drive
   pub make-accepted : accepted s ≡ true → made s ≡ Ready (fresh s)
   unfolding made
@@ -106,6 +111,9 @@ module _ (d : Drive) (ia ib count : ℤ) where
   -- 0: accepted
   pub step-0 : (step .number ≡ pos 0) ↔ ((broken d ≡ false) × (d .tripped ≡ false) × (sampleOk ia ib count ≡ true))
   step-0 = same number-stepped (ladder.step-0 (broken d) (d .tripped) (sampleOk ia ib count))
+
+  pub step-free : Free (step .number)
+  step-free = subst Free (sym number-stepped) (ladder.step-free (broken d) (d .tripped) (sampleOk ia ib count))
 
   -- 14: state same, compares 0, 0, 0
   pub step-broken : broken d ≡ true → step ≡ refused d (pos 14) (pos 0)
@@ -154,6 +162,9 @@ module _ (d : Drive) (wanted : ℤ) where
   pub target-0 : (target .number ≡ pos 0) ↔ ((broken d ≡ false) × (d .tripped ≡ false) × (inside (pos 8191) wanted ≡ true))
   target-0 = same number-targeted (ladder.target-0 (broken d) (d .tripped) (inside (pos 8191) wanted))
 
+  pub target-free : Free (target .number)
+  target-free = subst Free (sym number-targeted) (ladder.target-free (broken d) (d .tripped) (inside (pos 8191) wanted))
+
   -- refused, the state is the same; accepted, the target is replaced and nothing else
   pub target-broken : broken d ≡ true → target ≡ with d (pos 14)
   unfolding targeted
@@ -193,6 +204,9 @@ module _ (d : Drive) where
 
   pub clear-0 : (clear .number ≡ pos 0) ↔ ((broken d ≡ false) × (d .tripped ≡ true))
   clear-0 = same number-cleared (ladder.clear-0 (broken d) (d .tripped))
+
+  pub clear-free : Free (clear .number)
+  clear-free = subst Free (sym number-cleared) (ladder.clear-free (broken d) (d .tripped))
 
   -- refused, the state is the same; accepted, it is the fresh drive of the same settings
   pub clear-broken : broken d ≡ true → clear ≡ with d (pos 14)
@@ -237,11 +251,16 @@ module _ (d : Drive) (samples out : List ℤ) where
   pub run-0 : (run .number ≡ pos 0) ↔ ((broken d ≡ false) × (rowsFit (length samples) (length out) ≡ true))
   run-0 = same number-ran (ladder.run-0 (broken d) (rowsFit (length samples) (length out)))
 
+  pub run-free : Free (run .number)
+  run-free = subst Free (sym number-ran) (ladder.run-free (broken d) (rowsFit (length samples) (length out)))
+
   -- refused, nothing is written, the state is the same and both counts are 0
   pub run-broken : broken d ≡ true → (run ≡ none d (pos 14)) × (outOf d samples out ≡ out)
-  unfolding runOf outOf
-  run-broken e = (rw e refl, rw e refl)
+  run-broken e = outcomes.run-14 d samples out e
 
   pub run-unfit : broken d ≡ false → rowsFit (length samples) (length out) ≡ false → (run ≡ none d (pos 9)) × (outOf d samples out ≡ out)
-  unfolding runOf outOf
-  run-unfit e f = (rw (e, f) refl, rw (e, f) refl)
+  run-unfit e f = outcomes.run-9 d samples out e f
+
+  -- accepted, it is what stands after the rows, and what they write; numbers past their output stay
+  pub run-accepted : broken d ≡ false → rowsFit (length samples) (length out) ≡ true → (run ≡ ranOf d samples (rowsIn samples)) × (outOf d samples out ≡ writtenOf d samples (rowsIn samples) ++ drop (4 * rowsIn samples) out)
+  run-accepted e f = outcomes.run-0 d samples out e f

@@ -1,12 +1,15 @@
--- Demand 3. Over any history each of the three integrals is within its regulator's limits. And in every accepted step, of whatever drive:
--- whenever a regulator runs, its integral ends between the old value and the output issued; its output leaves a limit when the error
--- turns; the compares lie within 0..T; unclipped, the on-times differ by what the voltage asks, but for less than two counts.
+-- Demand 3. Over any history each of the three integrals is within its regulator's limits, and the compares of any step or row lie within
+-- 0..T. And in every accepted step, of whatever drive: whenever a regulator runs, its integral ends between the old value and the output
+-- issued; its output leaves a limit when the error turns; unclipped, the on-times differ by what the voltage asks, but for less than two
+-- counts.
 -- Assumes nothing.
 use mathlib.Core.Path.{_≡_, refl, sym, _∙_, ap, ap₂, subst}
 use mathlib.Core.Bool.{Bool, true, false, cond}
-use lib.IntN.{ℤ, pos, negℤ, _+ℤ_, _-ℤ_, _*ℤ_}
-use lib.Signed.{_≤ℤ_, _<ℤ_}
-use Rattle.fixed.proofs.Between.{Between}
+use mathlib.Core.List.{List}
+use Prim.Native.Nat.{ℕ}
+use lib.IntN.{ℤ, pos, negℤ, _-ℤ_, _*ℤ_}
+use lib.Signed.{_≤ℤ_, _<ℤ_, ≤ℤ-refl}
+use Rattle.fixed.specs.Fixed.{Between}
 use Rattle.fixed.proofs.HeldLaws.{within-lo, within-hi}
 use Rattle.sine.specs.Sine.{sineAt, cosineAt}
 use Rattle.regulator.specs.Regulator.{regulated, Lawful}
@@ -16,32 +19,29 @@ use Rattle.frames.specs.declared.Stator.{Stator}
 use Rattle.frames.specs.Frames.{inversePark}
 use Rattle.modulation.specs.declared.Pulses.{Pulses}
 use Rattle.shaft.specs.Shaft.{thirtieth, counted, measured}
-use Rattle.modulation.specs.Modulation.{modulated, A, B}
-use Rattle.modulation.proofs.Compares.{InPeriod, Near, on, compares-within, on-times}
+use Rattle.modulation.specs.Modulation.{modulated, InPeriod, AllInPeriod, AsAsked}
+use Rattle.modulation.proofs.Compares.{compares-within, on-times}
 use Rattle.record.specs.declared.Drive.{Drive}
+use Rattle.record.specs.Record.{inside, broken}
 use Rattle.record.proofs.Ranges.{Inside, Sound, not-broken}
 use Rattle.drive.specs.Step.{speedGains, currentGains, speedRegulated, currentRegulated, withTorque, withSpeed, withShaft, withCommand, commanded, turned, dRegulated, qRegulated, voltageOf, voltageFor, withField, outcome, pulsed, driven, advanced}
-use Rattle.drive.specs.Calls.{stepped}
+use Rattle.drive.specs.Calls.{sampleOk, refused, stepped}
 use Rattle.drive.proofs.Sizes as size
 use Rattle.drive.proofs.Kept as kept
-use Rattle.promises.specs.Histories.{History}
+use Rattle.rows.specs.Rows.{rowStepped, ranOf}
+use Rattle.rows.proofs.Runs.{rows-sound}
+use Rattle.promises.specs.Histories.{History, rowAt}
 use Rattle.promises.specs.Words.{seen, issued, dError, qError, next, speedError}
 use Rattle.promises.proofs.Demand1 as table
-use Rattle.promises.proofs.Demand2.{reached-sound}
+use Rattle.promises.proofs.Demand2.{step-by-the-rules, reached-sound, turned-settings, rows-settings}
 
 -- ════ any history: the integrals within their limits
-pub integrals-within : (d : Drive) → History d → Inside (d .settings .q) (d .integrals .speed) × Inside (d .settings .v) (d .integrals .d) × Inside (d .settings .v) (d .integrals .q)
+pub integrals-within : (d : Drive) → History d
+    → (inside (d .settings .q) (d .integrals .speed) ≡ true) × (inside (d .settings .v) (d .integrals .d) ≡ true) × (inside (d .settings .v) (d .integrals .q) ≡ true)
+unfolding inside
 integrals-within d r = let h = reached-sound d r .integrals in (h .speed, h .d, h .q)
 
--- ════ rules 1 and 2 leave settings and current integrals as they were
-turned-settings : (d : Drive) (count : ℤ) → turned d count .settings ≡ d .settings
-unfolding turned commanded withCommand withShaft
-turned-settings d count = by (thirtieth (d .shaft))
-  where
-    by : (b : Bool) → cond b (commanded d (measured (counted (d .shaft) count) (d .settings .kn))) (withShaft d (counted (d .shaft) count)) .settings ≡ d .settings
-    by true = refl
-    by false = refl
-
+-- ════ rules 1 and 2 leave the current integrals as they were
 turned-d : (d : Drive) (count : ℤ) → turned d count .integrals .d ≡ d .integrals .d
 unfolding turned commanded withCommand withSpeed withShaft
 turned-d d count = by (thirtieth (d .shaft))
@@ -74,7 +74,7 @@ module _ (d : Drive) (ia ib count : ℤ) (ok : stepped d ia ib count .number ≡
   met = not-broken d .0 (table.step-0 d ia ib count .0 ok .0)
 
   rules : stepped d ia ib count ≡ advanced d ia ib count
-  rules = let h = table.step-0 d ia ib count .0 ok in table.step-accepted d ia ib count (h .0) (h .1) (h .2)
+  rules = step-by-the-rules d ia ib count ok
 
   mid-sound : Sound mid
   mid-sound = kept.turned-sound d count met (size.samples→ ia ib count (table.step-0 d ia ib count .0 ok .2) .3)
@@ -204,18 +204,37 @@ module _ (d : Drive) (ia ib count : ℤ) (ok : stepped d ia ib count .number ≡
       ap (λ s. s .pulses) rules
       ∙ ap₃ modulated (ap (λ s. s .t) (turned-settings d count)) (ap (λ s. s .voltage .alpha) (sym rules)) (ap (λ s. s .voltage .beta) (sym rules))
 
-  pub compares-in-period : InPeriod (d .settings .t) (pulses .a) × InPeriod (d .settings .t) (pulses .b) × InPeriod (d .settings .t) (pulses .c)
+  pub compares-in-period : AllInPeriod (d .settings .t) pulses
   compares-in-period =
-      subst (λ (p : Pulses). InPeriod (d .settings .t) (p .a) × InPeriod (d .settings .t) (p .b) × InPeriod (d .settings .t) (p .c)) (sym pulses-are)
-      (compares-within (d .settings .t) (volts .alpha) (volts .beta) (size.period d met .up))
+      subst (AllInPeriod (d .settings .t)) (sym pulses-are) (compares-within (d .settings .t) (volts .alpha) (volts .beta) (size.period d met .up))
 
-  -- the on-times differ by what the voltage asks, but for less than 2 counts
-  abbrev Asked : Pulses → Type 0
-  Asked p =
-      Near (d .settings .t) (on (d .settings .t) (p .a) -ℤ on (d .settings .t) (p .b)) (A (volts .alpha) -ℤ B (volts .beta))
-      × Near (d .settings .t) (on (d .settings .t) (p .b) -ℤ on (d .settings .t) (p .c)) (pos 2 *ℤ B (volts .beta))
-      × Near (d .settings .t) (on (d .settings .t) (p .a) -ℤ on (d .settings .t) (p .c)) (A (volts .alpha) +ℤ B (volts .beta))
-
-  pub on-times-near : pulses .clipped ≡ false → Asked pulses
+  -- unclipped, the on-times differ by what the voltage asks, but for less than 2 counts
+  pub on-times-near : pulses .clipped ≡ false → AsAsked (d .settings .t) (volts .alpha) (volts .beta) pulses
   on-times-near e =
-      subst Asked (sym pulses-are) (on-times (d .settings .t) (volts .alpha) (volts .beta) (ap (λ p. p .clipped) (sym pulses-are) ∙ e))
+      subst (AsAsked (d .settings .t) (volts .alpha) (volts .beta)) (sym pulses-are)
+      (on-times (d .settings .t) (volts .alpha) (volts .beta) (ap (λ p. p .clipped) (sym pulses-are) ∙ e))
+
+-- ════ any history: the compares of any step, accepted or refused, and of any row of a run
+in-any-step : (d : Drive) → Sound d → (ia ib count : ℤ) → AllInPeriod (d .settings .t) (stepped d ia ib count .pulses)
+unfolding refused advanced driven pulsed outcome
+in-any-step d h ia ib count = by (d .tripped) (sampleOk ia ib count) refl refl
+  where
+    intact : broken d ≡ false
+    intact = not-broken d .1 h
+
+    closed : InPeriod (d .settings .t) (d .settings .t)
+    closed = record { lo = size.period d h .up; hi = ≤ℤ-refl (d .settings .t) }
+
+    by : (t s : Bool) → d .tripped ≡ t → sampleOk ia ib count ≡ s → AllInPeriod (d .settings .t) (stepped d ia ib count .pulses)
+    by true s e f = subst (λ r. AllInPeriod (d .settings .t) (r .pulses)) (sym (table.step-tripped d ia ib count intact e)) (closed, closed, closed)
+    by false false e f = subst (λ r. AllInPeriod (d .settings .t) (r .pulses)) (sym (table.step-sampled d ia ib count intact e f)) (closed, closed, closed)
+    by false true e f = compares-in-period d ia ib count (ap (λ r. r .number) (table.step-accepted d ia ib count intact e f))
+
+pub compares-of-any-step : (d : Drive) → History d → (ia ib count : ℤ) → AllInPeriod (d .settings .t) (stepped d ia ib count .pulses)
+compares-of-any-step d r ia ib count = in-any-step d (reached-sound d r) ia ib count
+
+pub compares-of-any-row : (d : Drive) → History d → (samples : List ℤ) (i : ℕ) → AllInPeriod (d .settings .t) (rowAt d samples i .pulses)
+unfolding rowAt rowStepped
+compares-of-any-row d r samples i =
+    subst (λ s. AllInPeriod (s .t) (rowAt d samples i .pulses)) (rows-settings d samples i)
+    (in-any-step (ranOf d samples i .drive) (rows-sound d samples i (reached-sound d r)) _ _ _)

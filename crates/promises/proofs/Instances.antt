@@ -1,8 +1,8 @@
 -- No promise is empty: each hypothesis that a theorem of this crate makes is met, by the bench set from fresh or by a drive with it.
 -- Assumes nothing.
-use mathlib.Core.Path.{_≡_, refl}
+use mathlib.Core.Path.{_≡_, refl, sym, _∙_, ap, subst}
 use mathlib.Core.Bool.{true, false}
-use mathlib.Core.List.{[], _∷_}
+use mathlib.Core.List.{List, [], _∷_}
 use lib.IntN.{ℤ, pos, _*ℤ_}
 use lib.Signed.{_<ℤ_, _≤ℤ_, ltZ-yes, leZ-yes}
 use Rattle.fixed.specs.Fixed.{down, held, modulo}
@@ -10,16 +10,17 @@ use Rattle.sine.proofs.AtZero.{sine-at-0, cosine-at-0}
 use Rattle.regulator.specs.Regulator.{sumOf, outOf, nextOf, regulated}
 use Rattle.frames.specs.Frames.{clarke, park, inversePark}
 use Rattle.modulation.specs.Modulation.{entriesOf, bit, numberOf, rowAt, rowOf, timeOf, clippedTimes, timesOf, compareAt, placed, modulated}
-use Rattle.rows.specs.Rows.{rowsFit}
+use Rattle.rows.specs.Rows.{none, ranOf, rowsFit}
 use Rattle.shaft.specs.Shaft.{signed, movement, moved, counted, thirtieth, speedOf, measured, rampedTo, sizeOf, weakened}
+use Rattle.record.specs.declared.Drive.{Drive}
 use Rattle.record.specs.Bench.{bench}
 use Rattle.record.specs.Record.{periodOk, gainOk, gainsOk, tied, gainsTied, limitsOk, restOk, refusal, accepted, inside, shaftOk, commandOk, fieldOk, integralsOk, sound, broken}
-use Rattle.record.proofs.Ranges.{Sound, sound→}
 use Rattle.drive.specs.Step.{speedGains, currentGains, speedRegulated, currentRegulated, rampedBy, withTorque, withSpeed, withCommand, commanded, turned, currents, fieldAfter, dRegulated, qRegulated, voltageOf, voltageFor, withField, advanced, driven, pulsed, outcome}
 use Rattle.drive.specs.Calls.{fresh, sampleOk, tripped, taken, stepped}
-use Rattle.promises.specs.Histories.{History, afterAll, stepOn, AllAccepted}
+use Rattle.promises.specs.Histories.{Call, History, stepping, aiming, clearing, running, after, afterAll, Quiet}
 use Rattle.promises.specs.Words.{seen, dError, qError, next, speedError}
-use Rattle.promises.specs.Bench.{waiting, spoiled, still}
+use Rattle.promises.specs.Bench.{waiting, spoiled, untied}
+use Rattle.promises.proofs.Demand1 as table
 
 pub bench-accepted : accepted bench ≡ true
 unfolding bench accepted refusal periodOk gainsOk gainOk gainsTied tied limitsOk restOk
@@ -30,23 +31,31 @@ pub fresh-history : History (fresh bench)
 unfolding afterAll
 fresh-history = record { settings = bench; are-accepted = bench-accepted; calls = []; leads = refl }
 
-pub waiting-sound : Sound (waiting (pos 0))
-unfolding waiting bench accepted refusal periodOk gainsOk gainOk gainsTied tied limitsOk restOk sound shaftOk commandOk fieldOk integralsOk inside
-waiting-sound = sound→ (waiting (pos 0)) refl
+-- settings that are refused
+pub untied-refused : accepted untied ≡ false
+unfolding untied accepted refusal periodOk gainsOk gainOk gainsTied tied limitsOk restOk
+untied-refused = refl
 
--- an accepted step, which is a tick
-pub waiting-steps : stepOn (waiting (pos 0)) still .number ≡ pos 0
+-- a record that is not broken, of a drive that is not tripped
+pub waiting-intact : (broken (waiting (pos 0)) ≡ false) × (waiting (pos 0) .tripped ≡ false)
+unfolding waiting bench accepted refusal periodOk gainsOk gainOk gainsTied tied limitsOk restOk sound broken shaftOk commandOk fieldOk integralsOk inside
+waiting-intact = (refl, refl)
+
+-- accepted steps of one, which are ticks; and one of a fresh drive, which is none
+abbrev Takes : Drive → ℤ → ℤ → Type 0
+Takes d ia ib = stepped d ia ib (pos 7) .number ≡ pos 0
+
+pub waiting-takes : Takes (waiting (pos 0)) (pos 0) (pos 0) × Takes (waiting (pos 0)) (pos 3000) (pos 0) × Takes (waiting (pos 0)) (pos 0) (pos 8191) × Takes (waiting (pos 16384)) (pos 0) (pos 0)
 unfolding waiting bench accepted refusal periodOk gainsOk gainOk gainsTied tied limitsOk restOk sound broken shaftOk commandOk fieldOk integralsOk inside stepped taken sampleOk advanced driven pulsed outcome
-waiting-steps = refl
+waiting-takes = (refl, refl, refl, refl)
 
-pub waiting-ticks : thirtieth (waiting (pos 0) .shaft) ≡ true
+pub waiting-ticks : (thirtieth (waiting (pos 0) .shaft) ≡ true) × (thirtieth (waiting (pos 16384) .shaft) ≡ true)
 unfolding waiting thirtieth
-waiting-ticks = refl
+waiting-ticks = (refl, refl)
 
--- between two ticks
-pub fresh-waits : thirtieth (fresh bench .shaft) ≡ false
-unfolding fresh thirtieth
-fresh-waits = refl
+pub fresh-takes : Takes (fresh bench) (pos 0) (pos 0) × (thirtieth (fresh bench .shaft) ≡ false)
+unfolding fresh thirtieth bench accepted refusal periodOk gainsOk gainOk gainsTied tied limitsOk restOk sound broken shaftOk commandOk fieldOk integralsOk inside stepped taken sampleOk advanced driven pulsed outcome
+fresh-takes = (refl, refl)
 
 -- records that are refused: broken, tripped; and samples and a target out of range
 pub spoiled-broken : broken spoiled ≡ true
@@ -70,12 +79,31 @@ pub rows-fit : (rowsFit 3 4 ≡ true) × (rowsFit 3 3 ≡ false) × (rowsFit 4 4
 unfolding rowsFit
 rows-fit = (refl, refl, refl)
 
--- steps that are all accepted
-pub waiting-accepts : AllAccepted (waiting (pos 0)) (still ∷ [])
-unfolding AllAccepted
-waiting-accepts = (waiting-steps, tt)
+pub no-rows-fit : rowsFit 0 0 ≡ true
+unfolding rowsFit
+no-rows-fit = refl
 
--- errors of either sign. At angle 0 the sine is 0 and the cosine 4096, so that d is ia; ib is chosen so that q is 0, or as large as it may be
+-- calls that leave the target and trip nothing: a target and a clear that are refused, a run with no rows, and a step, which is a tick
+module _ (d : Drive) (t : d .tripped ≡ false) where
+  past : (c : Call) (cs : List Call) → after d c ≡ d → Quiet d cs → Quiet d (c ∷ cs)
+  unfolding Quiet
+  past c cs e q = (ap (λ d. d .command .target) e, ap (λ d. d .tripped) e ∙ t, subst (λ d. Quiet d cs) (sym e) q)
+
+step-quiet : Quiet (waiting (pos 0)) (stepping (pos 0) (pos 0) (pos 7) ∷ [])
+unfolding Quiet after waiting bench accepted refusal periodOk gainsOk gainOk gainsTied tied limitsOk restOk sound broken shaftOk commandOk fieldOk integralsOk inside stepped taken sampleOk advanced driven pulsed outcome withField turned thirtieth commanded withCommand withTorque rampedBy
+step-quiet = (refl, refl, tt)
+
+pub waiting-quiet : Quiet (waiting (pos 0)) (aiming (pos 8192) ∷ clearing ∷ running [] [] ∷ stepping (pos 0) (pos 0) (pos 7) ∷ [])
+unfolding after ranOf none
+waiting-quiet =
+    let b = waiting-intact .0 in
+    let t = waiting-intact .1 in
+    let far = ap (λ s. s .drive) (table.target-far (waiting (pos 0)) (pos 8192) b t target-refused) in
+    let uncleared = ap (λ s. s .drive) (table.clear-untripped (waiting (pos 0)) b t) in
+    let unmoved = ap (λ r. r .drive) (table.run-accepted (waiting (pos 0)) [] [] b no-rows-fit .0) in
+    past (waiting (pos 0)) t _ _ far (past (waiting (pos 0)) t _ _ uncleared (past (waiting (pos 0)) t _ _ unmoved step-quiet))
+
+-- errors of either sign, in steps that are accepted above. At angle 0 the sine is 0 and the cosine 4096, so that d is ia; ib is chosen so that q is 0, or as large as it may be
 pub d-negative : dError (waiting (pos 0)) (pos 3000) (pos 0) (pos 7) <ℤ pos 0
 unfolding dError seen turned commanded withCommand withTorque rampedBy thirtieth counted measured moved movement signed modulo down speedOf held weakened sizeOf currents clarke park waiting bench
 d-negative = rw (cosine-at-0, sine-at-0) (ltZ-yes tt)
@@ -102,6 +130,6 @@ unfolding speedError next stepped taken broken sound accepted refusal periodOk g
 speed-worth-a-count = leZ-yes tt
 
 -- a step that is not clipped
-pub unclipped : stepOn (waiting (pos 0)) still .pulses .clipped ≡ false
+pub unclipped : stepped (waiting (pos 0)) (pos 0) (pos 0) (pos 7) .pulses .clipped ≡ false
 unfolding stepped taken sampleOk advanced driven pulsed outcome withField fieldAfter voltageFor voltageOf dRegulated qRegulated currentRegulated currentGains turned commanded withCommand withTorque withSpeed rampedBy speedRegulated speedGains regulated outOf nextOf sumOf rampedTo thirtieth counted measured moved movement signed modulo down speedOf held weakened sizeOf currents clarke park inversePark modulated placed compareAt timesOf clippedTimes timeOf rowOf rowAt numberOf bit entriesOf waiting bench accepted refusal periodOk gainsOk gainOk gainsTied tied limitsOk restOk sound broken shaftOk commandOk fieldOk integralsOk inside
 unclipped = rw (cosine-at-0, sine-at-0) refl

@@ -7,6 +7,7 @@ use Prim.Native.Nat.{ℕ}
 use lib.Dec.{T, eqb, eqb-refl}
 use lib.IntN.{ℤ, pos, natAbs}
 use Rattle.record.specs.Record.{unless}
+use Rattle.promises.specs.Words.{Free}
 
 -- two numbers that differ
 differ : {A : Type 0} (m n : ℕ) → T (not (eqb m n)) → pos m ≡ pos n → A
@@ -71,6 +72,15 @@ settings-0 true true true false e = (λ h. differ 4 0 tt h, λ h. absurd (false�
 settings-0 true true true true false = (λ h. differ 5 0 tt h, λ h. absurd (false≢true (h .4)))
 settings-0 true true true true true = (λ h. (refl, refl, refl, refl, refl), λ h. refl)
 
+-- none of them is one that is kept free
+pub settings-free : (a b c d e : Bool) → Free (settingsNumber a b c d e)
+settings-free false b c d e = refl
+settings-free true false c d e = refl
+settings-free true true false d e = refl
+settings-free true true true false e = refl
+settings-free true true true true false = refl
+settings-free true true true true true = refl
+
 -- ════ a call: broken, tripped, and then a test that gives 0, or else its own number, which is none of the others
 module _ (own : ℕ) (u : T (not (eqb own 14))) (v : T (not (eqb own 7))) (w : T (not (eqb own 0))) where
   abbrev callNumber : Bool → Bool → Bool → ℤ
@@ -100,6 +110,12 @@ module _ (own : ℕ) (u : T (not (eqb own 14))) (v : T (not (eqb own 7))) (w : T
   call-own false false true = (λ h. differ own 0 w (sym h), λ h. absurd (true≢false (h .2)))
   call-own false false false = (λ h. (refl, refl, refl), λ h. refl)
 
+  call-free : (b t s : Bool) → Free (pos own) → Free (callNumber b t s)
+  call-free true t s k = refl
+  call-free false true s k = refl
+  call-free false false true k = refl
+  call-free false false false k = k
+
 -- a step: its own number, where the samples are not good, is 6
 abbrev pub stepNumber : Bool → Bool → Bool → ℤ
 stepNumber b t s = callNumber 6 tt tt tt b t s
@@ -116,6 +132,9 @@ step-0 = call-0 6 tt tt tt
 pub step-6 : (b t s : Bool) → (stepNumber b t s ≡ pos 6) ↔ ((b ≡ false) × (t ≡ false) × (s ≡ false))
 step-6 = call-own 6 tt tt tt
 
+pub step-free : (b t s : Bool) → Free (stepNumber b t s)
+step-free b t s = call-free 6 tt tt tt b t s refl
+
 -- a target: its own number, where it is out of its range, is 8
 abbrev pub targetNumber : Bool → Bool → Bool → ℤ
 targetNumber b t w = callNumber 8 tt tt tt b t w
@@ -131,6 +150,9 @@ target-0 = call-0 8 tt tt tt
 
 pub target-8 : (b t w : Bool) → (targetNumber b t w ≡ pos 8) ↔ ((b ≡ false) × (t ≡ false) × (w ≡ false))
 target-8 = call-own 8 tt tt tt
+
+pub target-free : (b t w : Bool) → Free (targetNumber b t w)
+target-free b t w = call-free 8 tt tt tt b t w refl
 
 -- ════ broken, and then a test that gives 0, or else its own number
 module _ (own : ℕ) (u : T (not (eqb own 14))) (v : T (not (eqb own 0))) where
@@ -152,6 +174,11 @@ module _ (own : ℕ) (u : T (not (eqb own 14))) (v : T (not (eqb own 0))) where
   short-own false true = (λ h. differ own 0 v (sym h), λ h. absurd (true≢false (h .1)))
   short-own false false = (λ h. (refl, refl), λ h. refl)
 
+  short-free : (b s : Bool) → Free (pos own) → Free (shortNumber b s)
+  short-free true s k = refl
+  short-free false true k = refl
+  short-free false false k = k
+
 -- a clear: 10 where the drive is not tripped
 abbrev pub clearNumber : Bool → Bool → ℤ
 clearNumber b t = shortNumber 10 tt tt b t
@@ -165,6 +192,9 @@ clear-0 = short-0 10 tt tt
 pub clear-10 : (b t : Bool) → (clearNumber b t ≡ pos 10) ↔ ((b ≡ false) × (t ≡ false))
 clear-10 = short-own 10 tt tt
 
+pub clear-free : (b t : Bool) → Free (clearNumber b t)
+clear-free b t = short-free 10 tt tt b t refl
+
 -- a run: 9 where the rows do not fit
 abbrev pub runNumber : Bool → Bool → ℤ
 runNumber b f = shortNumber 9 tt tt b f
@@ -177,3 +207,6 @@ run-0 = short-0 9 tt tt
 
 pub run-9 : (b f : Bool) → (runNumber b f ≡ pos 9) ↔ ((b ≡ false) × (f ≡ false))
 run-9 = short-own 9 tt tt
+
+pub run-free : (b f : Bool) → Free (runNumber b f)
+run-free b f = short-free 9 tt tt b f refl

@@ -4,12 +4,15 @@
 use mathlib.Core.Path.{_≡_, sym, _∙_}
 use mathlib.Core.List.{List}
 use Prim.Native.Nat.{ℕ}
+use lib.IntN.{ℤ}
 use contract.Lifetimes.{Lfts}
 use borrow.Fn.Kinds.{PK, RK, Dens, resT, endedOf, Out}
 use denote.Triple.Clauses.{AtExit}
 use denote.Ref.{now}
 use Rattle.drive.proofs.make.Reads as make
 use Rattle.drive.proofs.make.Kinds as make-kinds
+use Rattle.drive.proofs.number_of.Reads as number_of
+use Rattle.drive.proofs.number_of.Kinds as number_of-kinds
 use Rattle.drive.proofs.step.Reads as step
 use Rattle.drive.proofs.step.Kinds as step-kinds
 use Rattle.drive.proofs.target.Reads as target
@@ -26,6 +29,9 @@ Settled n ps r contract = (κs : Lfts n) (a : Dens κs ps) (u v : resT r κs .De
 pub make-unique : Settled 0 make-kinds.ps make-kinds.r make.Post
 make-unique κs a u v x y p q = p ∙ sym q
 
+pub number-unique : Settled 0 number_of-kinds.ps number_of-kinds.r number_of.Post
+number-unique κs a u v x y p q = p ∙ sym q
+
 pub step-unique : Settled 0 step-kinds.ps step-kinds.r step.Post
 step-unique κs a u v x y p q = p ∙ sym q
 
@@ -39,6 +45,9 @@ clear-unique κs a u v x y p q = p ∙ sym q
 pub run-unique : Settled 2 run-kinds.ps run-kinds.r run.Post
 run-unique κs a u v x y p q = p .0 ∙ sym (q .0)
 
--- and the numbers lent to it
-pub run-output-unique : (κs : Lfts 2) (a : Dens κs run-kinds.ps) (u v : resT run-kinds.r κs .Denot) (x y : AtExit (endedOf 2 run-kinds.ps run-kinds.r) κs) → run.Post κs a u x → run.Post κs a v y → now (x .1 .1 .0) ≡ now (y .1 .1 .0)
+-- and the numbers lent to it, read of the parameters at exit
+abbrev pub lent : (κs : Lfts 2) → AtExit (endedOf 2 run-kinds.ps run-kinds.r) κs → List ℤ
+lent κs x = now (x .1 .1 .0)
+
+pub run-output-unique : (κs : Lfts 2) (a : Dens κs run-kinds.ps) (u v : resT run-kinds.r κs .Denot) (x y : AtExit (endedOf 2 run-kinds.ps run-kinds.r) κs) → run.Post κs a u x → run.Post κs a v y → lent κs x ≡ lent κs y
 run-output-unique κs a u v x y p q = p .1 ∙ sym (q .1)

@@ -1,23 +1,20 @@
 -- Drives with 01's bench set, at which the promises' hypotheses are met.
 use mathlib.Core.Bool.{true, false}
 use lib.IntN.{ℤ, pos}
+use Rattle.record.specs.declared.Settings.{Settings}
 use Rattle.record.specs.declared.Drive.{Drive}
 use Rattle.record.specs.Bench.{bench}
-use Rattle.promises.specs.Histories.{Sample}
 
--- before a tick: 29 steps in the window, the shaft standing, the target 100 away, an integral d at its limit
+-- before a tick: 29 steps in the window, in which the shaft moved by the sum; the target 100 away
 unfoldable pub waiting : ℤ → Drive
-waiting speed = record {
+waiting sum = record {
   settings = bench;
-  shaft = record { count = pos 7; seen = true; sum = speed; steps = pos 29; speed = pos 0 };
+  shaft = record { count = pos 7; seen = true; sum = sum; steps = pos 29; speed = pos 0 };
   command = record { target = pos 100; reference = pos 0; torque = pos 0; flux = pos 2458 };
   field = record { flux = pos 2458; angle = pos 0 };
   integrals = record { speed = pos 0; d = pos 0; q = pos 0 };
   tripped = false;
 }
-
-abbrev pub still : Sample
-still = record { ia = pos 0; ib = pos 0; count = pos 7 }
 
 -- a broken record: its angle is out of range
 unfoldable pub spoiled : Drive
@@ -28,4 +25,24 @@ spoiled = record {
   field = record { flux = pos 0; angle = pos 65536 };
   integrals = waiting (pos 0) .integrals;
   tripped = false;
+}
+
+-- settings that are refused: the bench set with document 004's gains 4.0, 0.125, 0.125
+unfoldable pub untied : Settings
+untied = record {
+  t = pos 600;
+  skp = pos 8192;
+  skcor = pos 64;
+  ski = pos 128;
+  ckp = pos 16384;
+  ckcor = pos 512;
+  cki = pos 512;
+  v = pos 4096;
+  q = pos 3277;
+  kr = pos 75;
+  kt = pos 310;
+  kth = pos 164;
+  kn = pos 64;
+  f = pos 2458;
+  r = pos 41;
 }

@@ -1,16 +1,17 @@
 -- What can have happened to a drive: accepted settings, then any calls in any order, accepted or refused.
 use mathlib.Core.Path.{_≡_}
-use mathlib.Core.Bool.{Bool, true}
+use mathlib.Core.Bool.{Bool, true, false, cond}
 use mathlib.Core.List.{List, [], _∷_}
 use Prim.Native.Nat.{ℕ, zero, suc, _+_, _-_, _/_}
-use lib.IntN.{ℤ, pos}
+use lib.IntN.{ℤ, natAbs, _-ℤ_}
+use lib.ListN.{length}
 use Rattle.shaft.specs.Shaft.{thirtieth}
 use Rattle.record.specs.declared.Settings.{Settings}
 use Rattle.record.specs.declared.Drive.{Drive}
 use Rattle.record.specs.Record.{accepted}
 use Rattle.drive.specs.Calls.{fresh, stepped, targeted, cleared}
 use Rattle.drive.specs.declared.Stepped.{Stepped}
-use Rattle.rows.specs.Rows.{rowStepped, one, ranOf, runOf}
+use Rattle.rows.specs.Rows.{rowStepped, isAccepted, one, ranOf, rowsIn, rowsFit, runOf}
 
 -- a call with its numbers; a run has samples and the output that is lent to it
 pub data Call : Type 0 where
@@ -47,28 +48,38 @@ unfoldable pub countOf : (ℕ → Bool) → ℕ → ℕ
 countOf p zero = 0
 countOf p (suc n) = countOf p n + one (p n)
 
--- ════ steps one after the other, every one of them accepted
-pub record Sample : Type 0 where
-  pub ia : ℤ
-  pub ib : ℤ
-  pub count : ℤ
+-- ════ the ramp's time
+-- the target stays and nothing trips, call after call
+unfoldable pub Quiet : Drive → List Call → Type 0
+Quiet d [] = Unit
+Quiet d (c ∷ cs) = (after d c .command .target ≡ d .command .target) × (after d c .tripped ≡ false) × Quiet (after d c) cs
 
-abbrev pub stepOn : Drive → Sample → Stepped
-stepOn d s = stepped d (s .ia) (s .ib) (s .count)
+-- the ticks among a call's steps: a step is one when 29 are in the window before it
+unfoldable pub ticksIn : Drive → Call → ℕ
+ticksIn d (stepping ia ib count) = one (thirtieth (d .shaft))
+ticksIn d (aiming wanted) = 0
+ticksIn d clearing = 0
+ticksIn d (running samples out) =
+    cond (rowsFit (length samples) (length out)) (countOf (λ i. thirtieth (ranOf d samples i .drive .shaft)) (rowsIn samples)) 0
 
-unfoldable pub afterSteps : Drive → List Sample → Drive
-afterSteps d [] = d
-afterSteps d (s ∷ ss) = afterSteps (stepOn d s .drive) ss
-
-unfoldable pub AllAccepted : Drive → List Sample → Type 0
-AllAccepted d [] = Unit
-AllAccepted d (s ∷ ss) = (stepOn d s .number ≡ pos 0) × AllAccepted (stepOn d s .drive) ss
-
--- how many of them are ticks: a step is one when 29 are in the window before it
-unfoldable pub ticksOf : Drive → List Sample → ℕ
+unfoldable pub ticksOf : Drive → List Call → ℕ
 ticksOf d [] = 0
-ticksOf d (s ∷ ss) = one (thirtieth (d .shaft)) + ticksOf (stepOn d s .drive) ss
+ticksOf d (c ∷ cs) = ticksIn d c + ticksOf (after d c) cs
+
+-- a call's accepted steps
+unfoldable pub stepsIn : Drive → Call → ℕ
+stepsIn d (stepping ia ib count) = one (isAccepted (stepped d ia ib count))
+stepsIn d (aiming wanted) = 0
+stepsIn d clearing = 0
+stepsIn d (running samples out) = runOf d samples out .accepted
+
+unfoldable pub stepsOf : Drive → List Call → ℕ
+stepsOf d [] = 0
+stepsOf d (c ∷ cs) = stepsIn d c + stepsOf (after d c) cs
 
 -- gap/R, rounded up
 abbrev pub roundedUp : ℕ → ℕ → ℕ
 roundedUp gap r = (gap + r - 1) / r
+
+abbrev pub ticksNeeded : Drive → ℕ
+ticksNeeded d = roundedUp (natAbs (d .command .target -ℤ d .command .reference)) (natAbs (d .settings .r))

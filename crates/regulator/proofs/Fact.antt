@@ -7,10 +7,10 @@ use native.Mathlib.Omega.{arith}
 use lib.Dec.{lit<}
 use lib.IntN.{ℤ, pos, negℤ, _+ℤ_, _-ℤ_, _*ℤ_}
 use lib.Signed.{_≤ℤ_, _<ℤ_, ltZ-yes}
-use Rattle.fixed.specs.Fixed.{down}
+use Rattle.fixed.specs.Fixed.{down, Between}
 use Rattle.fixed.proofs.Parts.{order, diffs, is-diff, parts-+, parts--, parts-*, P-neg, N-neg}
 use Rattle.fixed.proofs.Ring.{*-nonneg, gap-up, gap-down, *-neg-pos, *-assoc, *-left}
-use Rattle.fixed.proofs.Between.{Between, between-in}
+use Rattle.fixed.proofs.Between.{between-in}
 use Rattle.fixed.proofs.DownLaws.{down-low, down-high, le-down, down-lt, down-low-parts, down-high-parts}
 use Rattle.fixed.proofs.HeldLaws.{held-cases, held-lo, held-hi}
 use Rattle.regulator.specs.declared.Gains.{Gains}

@@ -7,9 +7,10 @@ use Prim.Native.Nat.{ℕ, zero, suc, _+_, _*_, _-_, _≤_}
 use native.Mathlib.Omega.{arith}
 use lib.IntN.{ℤ, pos, negsuc, natAbs, _+ℤ_, _-ℤ_}
 use lib.Signed.{_≤ℤ_, _<ℤ_, ≤ℤ-refl}
+use Rattle.fixed.specs.Fixed.{Between}
 use Rattle.fixed.proofs.Parts.{P, N, order, parts-+, parts--}
 use Rattle.fixed.proofs.Ring.{<-≤, <-or-≤}
-use Rattle.fixed.proofs.Between.{Between, between-size}
+use Rattle.fixed.proofs.Between.{between-size}
 use Rattle.fixed.proofs.Size.{abs-parts}
 use Rattle.fixed.proofs.HeldLaws.{held-cases}
 use Rattle.shaft.specs.Shaft.{rampedTo, ramped}
