@@ -25,7 +25,7 @@ pub struct State {
     pub tally: Tally,
 }
 
-// Nothing is read yet, and so many bytes wait.
+// Nothing is read yet, and so many bytes wait. The places are said by themselves too, as in `lines::start`.
 pub fn start(d: Drive, place: usize) -> State
     ensures { λ s. ⌜ s ≡ startOf d place ⌝ }
     ensures { λ s. ⌜ (s .reader .at ≡ 0) × (s .reader .size ≡ 0) × (s .tally .place ≡ place) ⌝ }

@@ -44,7 +44,7 @@ pub struct Reached {
     pub at: usize,
 }
 
-// Nothing is read yet.
+// Nothing is read yet. Place and size are said by themselves too: callers need them at once, and need not open the definition.
 pub fn start() -> Reader
     ensures { λ r. ⌜ r ≡ atStart ⌝ }
     ensures { λ r. ⌜ (r .at ≡ 0) × (r .size ≡ 0) ⌝ }
