@@ -1,13 +1,13 @@
 -- A batch from the chunk to the output: the buffers that it needs, what becomes of it, and what is written last.
 use mathlib.Core.Path.{_≡_}
 use Prim.Native.Nat.{ℕ, _+_, _≤_, min}
-use mathlib.Core.Bool.{true}
+use mathlib.Core.Bool.{true, cond}
 use mathlib.Core.List.{List, _++_}
 use lib.IntN.{ℤ}
 use lib.ListN.{length}
 use Rattle.text.specs.Decimal.{written}
 use Rattle.lines.specs.declared.Reader.{Reader}
-use Rattle.lines.specs.Chunk.{atStart, Inside, endText, waiting}
+use Rattle.lines.specs.Chunk.{atStart, Inside, left, afterLines, endText, waiting}
 use Rattle.record.specs.declared.Drive.{Drive}
 use Rattle.rows.specs.Rows.{rowsIn, runOf, outOf}
 use Rattle.rows_text.specs.Found.{Found}
@@ -42,12 +42,19 @@ Ready s bytes samples answers out =
 abbrev pub sentOf : Tally → ℕ → Tally
 sentOf t places = record { drive = t .drive; accepted = t .accepted; clipped = t .clipped; place = waiting 12288 places (t .place) }
 
--- what was found has become of the batch, over the answers before it and the output o; then what waits is sent, if need be
-pub record Passed (f : Found) (answers : List ℤ) (o : List ℕ) (s n : State) (out : List ℕ) : Type 0 where
+-- how many lines were found: the rows, and the line that is none where it stopped at one
+abbrev pub linesOf : Found → ℕ
+linesOf f = rowsIn (f .samples) + cond (f .all-rows) 0 1
+
+-- what was found has become of the batch, over the answers before it and the output o; then what waits is sent, if need be; and the
+-- reader goes on behind it
+pub record Passed (f : Found) (answers : List ℤ) (o : List ℕ) (s n : State) (bytes out : List ℕ) : Type 0 where
   pub tally : Tally
   pub batched : Batched (f .samples) answers o (s .tally) tally out
   pub sent : n .tally ≡ sentOf tally (length out)
   pub goes-on : n .going ≡ f .all-rows
+  pub rest : left (n .reader) bytes ≡ f .rest
+  pub numbered : n .reader .number ≡ afterLines (linesOf f) (s .reader .number)
 
 -- what is written where the reading stops: that a line is bad, unless the input was over, and the totals so far
 unfoldable pub closingText : Reader → Tally → List ℕ

@@ -79,7 +79,7 @@ pub fn next_batch(
 ) -> State
     requires { ⌜ Ready s (now bytes) (now samples) (now answers) (now out) ⌝ }
     ensures { λ n. ⌜ Inside (n .reader) (now (bytes .exit)) × (n .tally .place + 12288 ≤ length (now (out .entry))) ⌝ }
-    ensures { λ n. ⌜ (found 256 (left (s .reader) (now (bytes .entry))) .whole ≡ true → Passed (found 256 (left (s .reader) (now (bytes .entry)))) (now (answers .entry)) (now (out .entry)) s n (now (out .exit))) ⌝ }
+    ensures { λ n. ⌜ (found 256 (left (s .reader) (now (bytes .entry))) .whole ≡ true → Passed (found 256 (left (s .reader) (now (bytes .entry)))) (now (answers .entry)) (now (out .entry)) s n (now (bytes .exit)) (now (out .exit))) ⌝ }
 {
     let b = rows_text::read_batch(s.reader, bytes, samples);
     let reader = b.reader;

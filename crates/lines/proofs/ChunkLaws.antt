@@ -1,7 +1,7 @@
 -- Reading goes through a chunk byte by byte, and stops at the line feed or at the chunk's end.
 -- Assumes nothing.
 use mathlib.Core.Path.{_≡_, refl, ap, ap₂, sym, _∙_}
-use mathlib.Core.Bool.{true, false, not, true≢false}
+use mathlib.Core.Bool.{Bool, true, false, cond, not, true≢false}
 use mathlib.Core.Logic.{_⊎_, inr, ⊎-elim}
 use mathlib.Core.List.{List, [], _∷_}
 use Prim.Native.Nat.{ℕ, _+_, _≤_, _<_}
@@ -164,3 +164,11 @@ module _ {bytes₀ : List ℕ} {ns₀ : List ℤ} {n₀ : Reader} {turns₀ : �
       hasFeed (left r bytes₀) ≡ true → Whole (left r bytes₀) r ns₀ n ns × (bytes ≡ bytes₀)
   underway-whole o k t =
       ⊎-elim (λ b. absurd (k b)) (λ f. (whole bytes₀ o t (f .0), f .1)) (s (ap hasFeed (left-same bytes₀ o) ∙ t))
+
+-- ════ a chunk that comes, or none, leaves the line its number
+pub filled-number : (r n : Reader) → n ≡ filledOf r (n .size) → n .number ≡ r .number
+filled-number r n e = ap (λ (m : Reader). m .number) e ∙ by (eqb (n .size) 0)
+  where
+    by : (b : Bool) → cond b (endedOf r) (record { line = r .line; number = r .number; begun = r .begun; «open» = r .open; over = r .over; at = 0; size = n .size }) .number ≡ r .number
+    by true = refl
+    by false = refl

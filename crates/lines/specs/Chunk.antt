@@ -1,6 +1,6 @@
 -- What the bytes of a chunk make of the line at hand, and what a refused line is answered.
 use mathlib.Core.Path.{_≡_}
-use Prim.Native.Nat.{ℕ, _+_, _-_, _≤_, min}
+use Prim.Native.Nat.{ℕ, zero, suc, _+_, _-_, _≤_, min}
 use mathlib.Core.Bool.{Bool, true, false, cond, not}
 use mathlib.Core.List.{List, [], _∷_, _++_}
 use lib.Dec.{eqb, ltb, leb}
@@ -50,6 +50,11 @@ atStart = record { line = lineStart; number = 0; begun = false; «open» = false
 -- the number of the line after line n; held at the end of 64 bits, which no input reaches
 abbrev pub after : ℕ → ℕ
 after n = min (n + 1) 18446744073709551615
+
+-- and of the line k lines after it
+unfoldable pub afterLines : ℕ → ℕ → ℕ
+afterLines zero n = n
+afterLines (suc k) n = after (afterLines k n)
 
 -- the line after the one at hand, of which no byte came yet
 abbrev pub openedOf : Reader → Reader

@@ -144,6 +144,7 @@ fn turn(r: Reader, bytes: &mut [u8], numbers: &mut [i32]) -> Reader
     ensures { λ n. ⌜ Inside n (now (bytes .exit)) ⌝ }
     ensures { λ n. ⌜ (r .at < r .size → Fed (left r (now (bytes .entry))) r (now (numbers .entry)) n (now (numbers .exit)) × (now (bytes .exit) ≡ now (bytes .entry))) ⌝ }
     ensures { λ n. ⌜ (r .size ≤ r .at → (n ≡ filledOf r (n .size)) × (now (numbers .exit) ≡ now (numbers .entry))) ⌝ }
+    ensures { λ n. ⌜ n .number ≡ r .number ⌝ }
 {
     let size = r.size;
     if r.at < size {
@@ -155,11 +156,13 @@ fn turn(r: Reader, bytes: &mut [u8], numbers: &mut [i32]) -> Reader
 // One whole line, across chunks. Then `over` says that there was none; `line.bad` that it is no line of numbers, has more of them than
 // `numbers` has room for, or has no line feed; else it has `line.count` of them. The contract gives the line's meaning where all of it stands
 // in the chunk. Of one that goes on in the next chunk it cannot, since nothing is known of what `read` brings: there each piece is `fed_chunk`'s.
+// Its number is the next one, whatever comes.
 // A proved loop has to end, and nothing says that a line does: so the turns are counted, from a number that no run uses up.
 pub fn next_line(r: Reader, bytes: &mut [u8], numbers: &mut [i32]) -> Reader
     requires { ⌜ Inside r (now bytes) ⌝ }
     ensures { λ n. ⌜ Inside n (now (bytes .exit)) ⌝ }
     ensures { λ n. ⌜ (hasFeed (left r (now (bytes .entry))) ≡ true → Whole (left r (now (bytes .entry))) r (now (numbers .entry)) n (now (numbers .exit)) × (now (bytes .exit) ≡ now (bytes .entry))) ⌝ }
+    ensures { λ n. ⌜ n .number ≡ after (r .number) ⌝ }
 {
     let mut n = opened(r);
     let mut turns = u64::MAX;

@@ -1,6 +1,6 @@
 -- What stands at the front of a chunk: rows, one behind the other, up to a count or to the first line that is none.
 use mathlib.Core.Path.{_≡_}
-use Prim.Native.Nat.{ℕ, zero, suc, _*_, _≤_}
+use Prim.Native.Nat.{ℕ, zero, suc, _+_, _*_, _≤_}
 use mathlib.Core.Bool.{Bool, true, false, cond}
 use mathlib.Core.List.{List, [], _++_}
 use mathlib.Core.Option.{Option, none, some}
@@ -34,6 +34,10 @@ found (suc k) bs =
     (record { samples = []; all-rows = false; whole = false; rest = bs })
 
 -- ════ as it is read
+-- how many lines a batch took: its rows, and the line that is none where it stopped at one
+abbrev pub linesIn : Batch → ℕ
+linesIn b = b .rows + cond (b .going) 0 1
+
 -- the line in front of the first line feed of bs is told as what it means, and the chunk goes on behind it
 pub record RowRead (bs bytes : List ℕ) (n : Reader) (row : List ℤ) : Type 0 where
   pub told : rowTold n row ≡ rowIn (upToFeed bs)

@@ -4,9 +4,9 @@ ghost use mathlib.Core.Bool.{true};
 ghost use Prim.Native.Nat.{_+_, _*_, _≤_};
 ghost use lib.ListN.{length};
 ghost use Rattle.text.specs.Decimal.{written};
-ghost use Rattle.lines.specs.Chunk.{Inside, left, hasFeed};
+ghost use Rattle.lines.specs.Chunk.{Inside, left, hasFeed, after, afterLines};
 ghost use Rattle.rows_text.specs.Row.{isRow};
-ghost use Rattle.rows_text.specs.Found.{found, RowRead, BatchRead};
+ghost use Rattle.rows_text.specs.Found.{found, linesIn, RowRead, BatchRead};
 ghost use Rattle.rows_text.specs.Texts.{headerText, rowsText, totalsText};
 use lines::Reader;
 
@@ -29,16 +29,18 @@ pub fn next_row(r: Reader, bytes: &mut [u8], row: &mut [i32]) -> Reader
     requires { ⌜ Inside r (now bytes) × (length (now row) ≡ 3) ⌝ }
     ensures { λ n. ⌜ Inside n (now (bytes .exit)) ⌝ }
     ensures { λ n. ⌜ (hasFeed (left r (now (bytes .entry))) ≡ true → RowRead (left r (now (bytes .entry))) (now (bytes .exit)) n (now (row .exit)) × (now (bytes .exit) ≡ now (bytes .entry))) ⌝ }
+    ensures { λ n. ⌜ n .number ≡ after (r .number) ⌝ }
 {
     lines::next_line(r, bytes, row)
 }
 
 // Rows up to 256, each into its own three places, or up to the first line that is none. The contract gives those
-// that stand whole in the chunk.
+// that stand whole in the chunk, and the number of the last line that was read, wherever it stands.
 pub fn read_batch(r: Reader, bytes: &mut [u8], samples: &mut [i32]) -> Batch
     requires { ⌜ Inside r (now bytes) × (768 ≤ length (now samples)) ⌝ }
     ensures { λ b. ⌜ Inside (b .reader) (now (bytes .exit)) × (b .rows ≤ 256) ⌝ }
     ensures { λ b. ⌜ BatchRead (found 256 (left r (now (bytes .entry)))) (now (bytes .exit)) b (now (samples .exit)) ⌝ }
+    ensures { λ b. ⌜ b .reader .number ≡ afterLines (linesIn b) (r .number) ⌝ }
 {
     let mut reader = r;
     let mut i = 0;

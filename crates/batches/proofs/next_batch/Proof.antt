@@ -14,7 +14,7 @@ returns c =
     let k = c .before .before .before .before .before in
     let r = k .before .before .before .before .before .before .before .before .before in
     let e = r .read-batch .ensures in
-    ((e .0 .0, omega arith), passed (e .1) (k .run-batch .ensures) (c .flushed .ensures .0))
+    ((e .0 .0, omega arith), passed (e .1 .0) (e .1 .1) (k .run-batch .ensures) (c .flushed .ensures .0))
 
 read-batch-requires : tie.Need-read-batch-requires
 read-batch-requires c κs = search needs

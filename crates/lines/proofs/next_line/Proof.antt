@@ -13,7 +13,7 @@ use Rattle.lines.proofs.next_line.Tie as tie
 
 abbrev Inv-loop : tie.InvT-loop
 Inv-loop bytes₀ numbers₀ n₀ turns₀ bytes numbers n turns =
-    (length bytes ≡ length bytes₀) × (length numbers ≡ length numbers₀) × (n .at ≤ n .size) × (n .size ≤ length bytes) × Underway bytes₀ numbers₀ n₀ turns₀ bytes numbers n turns
+    (length bytes ≡ length bytes₀) × (length numbers ≡ length numbers₀) × (n .at ≤ n .size) × (n .size ≤ length bytes) × Underway bytes₀ numbers₀ n₀ turns₀ bytes numbers n turns × (n .number ≡ n₀ .number)
 
 abbrev μ-loop : tie.MeasureT-loop
 μ-loop bytes₀ numbers₀ n₀ turns₀ bytes numbers n turns = turns
@@ -36,26 +36,26 @@ returns c =
     let l = c .before .before in
     let o = opens (l .before) in
     let i = l .loop .inv in
-    ((i .2, i .3), underway-whole (i .4) o (λ b. absurd (true≢false (sym (o .is-open) ∙ sym (ap (λ (r : Reader). r .open) (b .same-reader)) ∙ c .if1 .left))))
+    ((i .2, i .3), (underway-whole (i .4) o (λ b. absurd (true≢false (sym (o .is-open) ∙ sym (ap (λ (r : Reader). r .open) (b .same-reader)) ∙ c .if1 .left))), i .5 ∙ o .numbered))
 
 returns-2 : tie.Need-returns-2 Inv-loop μ-loop
 returns-2 c =
     let l = c .before in
     let i = l .loop .inv in
-    ((i .2, i .3), underway-whole (i .4) (opens (l .before)) (λ b. omega (arith, b .same-turns, c .loop-test .left)))
+    ((i .2, i .3), (underway-whole (i .4) (opens (l .before)) (λ b. omega (arith, b .same-turns, c .loop-test .left)), i .5 ∙ opens (l .before) .numbered))
 
 loop-holds : tie.Need-loop-holds Inv-loop μ-loop
 loop-holds c =
     let o = opens c in
     let s = c .before .before in
-    (refl, refl, omega arith, omega arith, λ t. inl (record { same-bytes = refl; same-numbers = refl; same-reader = refl; same-turns = refl }))
+    (refl, refl, omega arith, omega arith, λ t. inl (record { same-bytes = refl; same-numbers = refl; same-reader = refl; same-turns = refl }), refl)
 
 loop-again : tie.Need-loop-again Inv-loop μ-loop
 loop-again c =
     let a = c .before .before .before in
     let t = a .before .before .before in
     let i = t .before .before .loop .inv in
-    (omega arith, omega arith, a .turn .ensures .0 .0, omega arith, underway-on (i .4) (t .if1 .taken) (λ f. a .turn .ensures .1 .0 (feed-left (t .before .before .loop .n) (t .before .before .loop .bytes) f)))
+    (omega arith, omega arith, a .turn .ensures .0 .0, omega arith, underway-on (i .4) (t .if1 .taken) (λ f. a .turn .ensures .1 .0 (feed-left (t .before .before .loop .n) (t .before .before .loop .bytes) f)), a .turn .ensures .1 .1 .1 ∙ i .5)
 
 loop-less : tie.Need-loop-less Inv-loop μ-loop
 loop-less c = omega arith

@@ -5,6 +5,7 @@ use mathlib.Core.Path.{refl, sym}
 use native.Mathlib.Omega.{arith}
 use lib.Seq.{length-take-le}
 use denote.Ref.{now}
+use Rattle.lines.proofs.ChunkLaws.{filled-number}
 use Rattle.lines.proofs.turn.Statement.{statement}
 use Rattle.lines.proofs.turn.Tie as tie
 
@@ -13,13 +14,13 @@ returns c =
     let k = c .before in
     let s = k .before .before .before .before .before .before in
     let f = k .fed-chunk .ensures in
-    (omega (arith, f .1, f .0 .sized, length-take-le (s .args .r .size) (now (s .args .bytes)) (s .pre .1), s .pre .1), (λ t. (f .0, refl), λ t. absurd (omega arith)))
+    (omega (arith, f .1, f .0 .sized, length-take-le (s .args .r .size) (now (s .args .bytes)) (s .pre .1), s .pre .1), (λ t. (f .0, refl), (λ t. absurd (omega arith), f .0 .numbered)))
 
 returns-2 : tie.Need-returns-2
 returns-2 c =
     let k = c .before .before in
     let a = k .before .before .before .before .before .args in
-    (k .filled .ensures .0, (λ t. absurd (omega arith), λ t. (k .filled .ensures .1, refl)))
+    (k .filled .ensures .0, (λ t. absurd (omega arith), (λ t. (k .filled .ensures .1, refl), filled-number (a .r) _ (k .filled .ensures .1))))
 
 slice-reshare-prefix-fed-chunk : tie.Need-slice-reshare-prefix-fed-chunk
 slice-reshare-prefix-fed-chunk c = search needs

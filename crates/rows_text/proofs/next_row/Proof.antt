@@ -18,7 +18,7 @@ returns : tie.Need-returns
 returns c =
     let n = c .before .before .before in
     let e = n .next-line .ensures in
-    (e .0, λ f. let w = e .1 f in (row-read (w .0) (w .1) (n .before .before .before .before .pre .1), w .1))
+    (e .0, (λ f. let w = e .1 .0 f in (row-read (w .0) (w .1) (n .before .before .before .before .pre .1), w .1), e .1 .1))
 
 pub next-row-spec : {M : Type 1} → statement M
 next-row-spec = tie.close (tie.spec next-line-requires same-length same-length-2 returns)
