@@ -33,7 +33,8 @@ use Rattle.rows.proofs.Runs.{rows-sound}
 use Rattle.promises.specs.Histories.{History, rowAt}
 use Rattle.promises.specs.Words.{seen, issued, dError, qError, next, speedError}
 use Rattle.promises.proofs.Demand1 as table
-use Rattle.promises.proofs.Demand2.{step-by-the-rules, reached-sound, turned-settings, rows-settings}
+use Rattle.promises.proofs.Demand2.{step-by-the-rules}
+use Rattle.promises.proofs.Keeping.{reached-sound, turned-settings, rows-settings}
 
 -- ════ any history: the integrals within their limits
 pub integrals-within : (d : Drive) → History d

@@ -1,5 +1,6 @@
 pub mod Ladders
 pub mod Demand1
+pub mod Keeping
 pub mod Demand2
 pub mod Demand3
 pub mod Onward

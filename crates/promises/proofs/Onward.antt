@@ -20,7 +20,7 @@ use Rattle.rows.specs.Rows.{rowStepped, isAccepted, one, none, afterRow, ranOf,
 use Rattle.rows.proofs.Runs.{rows-sound}
 use Rattle.promises.specs.Histories.{Call, stepping, aiming, clearing, running, after, afterAll, countOf, Quiet, ticksIn, ticksOf, stepsIn, stepsOf}
 use Rattle.promises.proofs.Demand1 as table
-use Rattle.promises.proofs.Demand2.{after-sound}
+use Rattle.promises.proofs.Keeping.{after-sound}
 
 -- ════ from drive d to drive e, by so many ticks and accepted steps
 pub record Onward (d e : Drive) (ticks steps : ℕ) : Type 0 where

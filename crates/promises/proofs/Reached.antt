@@ -18,7 +18,7 @@ use Rattle.record.specs.declared.Drive.{Drive}
 use Rattle.record.specs.Record.{broken}
 use Rattle.record.proofs.Ranges.{In, Sound, not-broken}
 use Rattle.promises.specs.Histories.{Call, afterAll, Quiet, ticksOf, stepsOf, roundedUp, ticksNeeded}
-use Rattle.promises.proofs.Demand2.{all-sound}
+use Rattle.promises.proofs.Keeping.{all-sound}
 use Rattle.promises.proofs.Onward.{Onward, calls-onward}
 
 -- ════ the time it takes
