@@ -3,8 +3,10 @@
 -- Assumes nothing.
 use mathlib.Core.Path.{_≡_, refl, sym, _∙_, ap}
 use mathlib.Core.Bool.{true, false}
-use mathlib.Core.List.{List, _++_}
+use mathlib.Core.List.{List, [], _++_}
 use Prim.Native.Nat.{ℕ, zero, suc, _+_, _*_}
+use native.Mathlib.Omega.{arith}
+use borrow.Author.Tests.{le-leb}
 use lib.IntN.{ℤ, pos}
 use lib.ListN.{length, drop}
 use Rattle.record.specs.declared.Drive.{Drive}
@@ -43,6 +45,11 @@ run-writes d samples i = refl
 
 pub run-output : (d : Drive) (samples out : List ℤ) → broken d ≡ false → rowsFit (length samples) (length out) ≡ true → outOf d samples out ≡ writtenOf d samples (rowsIn samples) ++ drop (4 * rowsIn samples) out
 run-output d samples out e f = table.run-accepted d samples out e f .1
+
+-- no rows is accepted, and changes nothing
+pub run-of-none : (d : Drive) (out : List ℤ) → broken d ≡ false → (runOf d [] out ≡ none d (pos 0)) × (outOf d [] out ≡ out)
+unfolding ranOf writtenOf rowsFit
+run-of-none d out e = table.run-accepted d [] out e (le-leb 0 (length out) (omega arith))
 
 -- the counts are of exactly those rows
 accepted-count : (d : Drive) (samples : List ℤ) (n : ℕ) → ranOf d samples n .accepted ≡ countOf (λ i. isAccepted (rowAt d samples i)) n

@@ -34,7 +34,7 @@ use Rattle.promises.specs.Histories.{History, rowAt}
 use Rattle.promises.specs.Words.{seen, issued, dError, qError, next, speedError}
 use Rattle.promises.proofs.Demand1 as table
 use Rattle.promises.proofs.Demand2.{step-by-the-rules}
-use Rattle.promises.proofs.Keeping.{reached-sound, turned-settings, rows-settings}
+use Rattle.promises.proofs.Keeping.{reached-sound, turned-keeps, turned-settings, rows-settings}
 
 -- ════ any history: the integrals within their limits
 pub integrals-within : (d : Drive) → History d
@@ -44,20 +44,12 @@ integrals-within d r = let h = reached-sound d r .integrals in (h .speed, h .d, 
 
 -- ════ rules 1 and 2 leave the current integrals as they were
 turned-d : (d : Drive) (count : ℤ) → turned d count .integrals .d ≡ d .integrals .d
-unfolding turned commanded withCommand withSpeed withShaft
-turned-d d count = by (thirtieth (d .shaft))
-  where
-    by : (b : Bool) → cond b (commanded d (measured (counted (d .shaft) count) (d .settings .kn))) (withShaft d (counted (d .shaft) count)) .integrals .d ≡ d .integrals .d
-    by true = refl
-    by false = refl
+unfolding commanded withCommand withSpeed withShaft
+turned-d d count = turned-keeps (λ d. d .integrals .d) d count refl refl
 
 turned-q : (d : Drive) (count : ℤ) → turned d count .integrals .q ≡ d .integrals .q
-unfolding turned commanded withCommand withSpeed withShaft
-turned-q d count = by (thirtieth (d .shaft))
-  where
-    by : (b : Bool) → cond b (commanded d (measured (counted (d .shaft) count) (d .settings .kn))) (withShaft d (counted (d .shaft) count)) .integrals .q ≡ d .integrals .q
-    by true = refl
-    by false = refl
+unfolding commanded withCommand withSpeed withShaft
+turned-q d count = turned-keeps (λ d. d .integrals .q) d count refl refl
 
 -- the same numbers under other names
 renamed : {x y z w o : ℤ} → x ≡ y → z ≡ w → Between x w o → Between y z o

@@ -45,13 +45,19 @@ pub reached-sound : (d : Drive) → History d → Sound d
 reached-sound d r = subst Sound (r .leads) (all-sound (fresh (r .settings)) (r .calls) (fresh-sound (r .settings) (r .are-accepted)))
 
 -- ════ settings
-pub turned-settings : (d : Drive) (count : ℤ) → turned d count .settings ≡ d .settings
-unfolding turned commanded withCommand withShaft
-turned-settings d count = by (thirtieth (d .shaft))
+-- what a tick and a step between two ticks both keep, rules 1 and 2 keep
+pub turned-keeps : {A : Type 0} (f : Drive → A) (d : Drive) (count : ℤ)
+    → f (commanded d (measured (counted (d .shaft) count) (d .settings .kn))) ≡ f d → f (withShaft d (counted (d .shaft) count)) ≡ f d → f (turned d count) ≡ f d
+unfolding turned
+turned-keeps f d count p q = by (thirtieth (d .shaft))
   where
-    by : (b : Bool) → cond b (commanded d (measured (counted (d .shaft) count) (d .settings .kn))) (withShaft d (counted (d .shaft) count)) .settings ≡ d .settings
-    by true = refl
-    by false = refl
+    by : (b : Bool) → f (cond b (commanded d (measured (counted (d .shaft) count) (d .settings .kn))) (withShaft d (counted (d .shaft) count))) ≡ f d
+    by true = p
+    by false = q
+
+pub turned-settings : (d : Drive) (count : ℤ) → turned d count .settings ≡ d .settings
+unfolding commanded withCommand withShaft
+turned-settings d count = turned-keeps (λ d. d .settings) d count refl refl
 
 step-settings : (d : Drive) (ia ib count : ℤ) → stepped d ia ib count .drive .settings ≡ d .settings
 unfolding stepped taken refused tripped advanced driven pulsed outcome withField
