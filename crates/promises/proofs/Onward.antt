@@ -18,7 +18,7 @@ use Rattle.drive.specs.Step.{rampedBy, withTorque, withShaft, withCommand, comm
 use Rattle.drive.specs.Calls.{sampleOk, tripped, refused, stepped, aimedAt, aimed, targeted}
 use Rattle.rows.specs.Rows.{rowStepped, isAccepted, one, none, afterRow, ranOf, rowsIn, rowsFit, runOf}
 use Rattle.rows.proofs.Runs.{rows-sound}
-use Rattle.promises.specs.Histories.{Call, stepping, aiming, clearing, running, after, afterAll, countOf, Quiet, ticksIn, ticksOf, stepsIn, stepsOf}
+use Rattle.promises.specs.Histories.{Call, stepping, aiming, clearing, running, after, afterAll, rowAt, countOf, isTick, Quiet, ticksIn, ticksOf, stepsIn, stepsOf}
 use Rattle.promises.proofs.Demand1 as table
 use Rattle.promises.proofs.Keeping.{after-sound}
 
@@ -79,7 +79,7 @@ module _ (d : Drive) (ia ib count : ℤ) where
         by true e = refl
         by false e = absurd (true≢false (sym (ap (λ s. s .drive .tripped) (table.step-sampled d ia ib count (not-broken d .1 h) t e)) ∙ u))
 
-    step-onward : d .tripped ≡ false → stepped d ia ib count .drive .tripped ≡ false → Onward d (stepped d ia ib count .drive) (one (thirtieth (d .shaft))) (one (isAccepted (stepped d ia ib count)))
+    step-onward : d .tripped ≡ false → stepped d ia ib count .drive .tripped ≡ false → Onward d (stepped d ia ib count .drive) (one (isTick d (stepped d ia ib count))) (one (isAccepted (stepped d ia ib count)))
     unfolding advanced driven pulsed outcome withField isAccepted
     step-onward t u =
         let e = table.step-accepted d ia ib count (not-broken d .1 h) t (untripped t u) in
@@ -100,8 +100,8 @@ stays-tripped d ia ib count h u = by (d .tripped) refl
 -- ════ the rows of a run
 module _ (d : Drive) (samples : List ℤ) (h : Sound d) where
   rows-onward : (n : ℕ) → d .tripped ≡ false → ranOf d samples n .drive .tripped ≡ false
-      → Onward d (ranOf d samples n .drive) (countOf (λ i. thirtieth (ranOf d samples i .drive .shaft)) n) (ranOf d samples n .accepted)
-  unfolding ranOf none afterRow rowStepped countOf
+      → Onward d (ranOf d samples n .drive) (countOf (λ i. isTick (ranOf d samples i .drive) (rowAt d samples i)) n) (ranOf d samples n .accepted)
+  unfolding ranOf none afterRow rowAt rowStepped countOf
   rows-onward zero t u = stays d
   rows-onward (suc n) t u =
       let k = rows-sound d samples n h in
@@ -129,7 +129,7 @@ module _ (d : Drive) (h : Sound d) (t : d .tripped ≡ false) where
   run-onward samples out u = by (rowsFit (length samples) (length out)) refl
     where
       ticks : ℕ
-      ticks = countOf (λ i. thirtieth (ranOf d samples i .drive .shaft)) (rowsIn samples)
+      ticks = countOf (λ i. isTick (ranOf d samples i .drive) (rowAt d samples i)) (rowsIn samples)
 
       by : (b : Bool) → rowsFit (length samples) (length out) ≡ b → Onward d (runOf d samples out .drive) (cond b ticks 0) (runOf d samples out .accepted)
       by false e = subst (λ r. Onward d (r .drive) 0 (r .accepted)) (sym (table.run-unfit d samples out intact e .0)) (stays d)

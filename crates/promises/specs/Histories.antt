@@ -1,6 +1,6 @@
 -- What can have happened to a drive: accepted settings, then any calls in any order, accepted or refused.
 use mathlib.Core.Path.{_≡_}
-use mathlib.Core.Bool.{Bool, true, false, cond}
+use mathlib.Core.Bool.{Bool, true, false, cond, _&&_}
 use mathlib.Core.List.{List, [], _∷_}
 use Prim.Native.Nat.{ℕ, zero, suc, _+_, _-_, _/_}
 use lib.IntN.{ℤ, natAbs, _-ℤ_}
@@ -54,13 +54,17 @@ unfoldable pub Quiet : Drive → List Call → Type 0
 Quiet d [] = Unit
 Quiet d (c ∷ cs) = (after d c .command .target ≡ d .command .target) × (after d c .tripped ≡ false) × Quiet (after d c) cs
 
--- the ticks among a call's steps: a step is one when 29 are in the window before it
+-- a step s of drive d is a tick when it is accepted with 29 steps in the window before it
+abbrev pub isTick : Drive → Stepped → Bool
+isTick d s = isAccepted s && thirtieth (d .shaft)
+
+-- the ticks among a call's steps
 unfoldable pub ticksIn : Drive → Call → ℕ
-ticksIn d (stepping ia ib count) = one (thirtieth (d .shaft))
+ticksIn d (stepping ia ib count) = one (isTick d (stepped d ia ib count))
 ticksIn d (aiming wanted) = 0
 ticksIn d clearing = 0
 ticksIn d (running samples out) =
-    cond (rowsFit (length samples) (length out)) (countOf (λ i. thirtieth (ranOf d samples i .drive .shaft)) (rowsIn samples)) 0
+    cond (rowsFit (length samples) (length out)) (countOf (λ i. isTick (ranOf d samples i .drive) (rowAt d samples i)) (rowsIn samples)) 0
 
 unfoldable pub ticksOf : Drive → List Call → ℕ
 ticksOf d [] = 0
