@@ -15,7 +15,7 @@ use base.Fml.{Share, fat, froom, fdies, ftrue}
 use prog.Wp.{Heap, Env, noLocal}
 use ghost.Atoms.{Atoms, sem}
 use types.Kit.{Given, Item, ‵, _⊛_, mean, ⋆, nth, del, pull, unpull, Goal, allocs, passes, frees, Seq, Step, step, _$_, move, split, join, drop}
-use types.Run.{Reads, Finds, Opd, Opds, init, forget, load, and-then, no-more, from, stop, alloc1, pass1, free1}
+use types.Run.{Reads, Finds, Opds, init, forget, load, and-then, no-more, from, stop, alloc1, pass1, free1}
 use contract.Lifetimes.{Lfts}
 use denote.Exit.{Exit, Last, left, unchanged, yes}
 use denote.RattleType.{RattleType, Denots, Valss, flat}

@@ -86,11 +86,11 @@ module _ (d : Drive) (ia ib count : ℤ) where
   abbrev step : Stepped
   step = stepped d ia ib count
 
-  number-stepped : step .number ≡ ladder.stepNumber (broken d) (d .tripped) (sampleOk ia ib count)
+  number-stepped : step .number ≡ ladder.callNumber 6 tt tt tt (broken d) (d .tripped) (sampleOk ia ib count)
   unfolding stepped taken refused advanced driven pulsed outcome
   number-stepped = by (broken d) (d .tripped) (sampleOk ia ib count) _ _ _ _ refl refl refl refl
     where
-      by : (b t s : Bool) (x y z w : Stepped) → x .number ≡ pos 14 → y .number ≡ pos 7 → z .number ≡ pos 0 → w .number ≡ pos 6 → cond b x (cond t y (cond s z w)) .number ≡ ladder.stepNumber b t s
+      by : (b t s : Bool) (x y z w : Stepped) → x .number ≡ pos 14 → y .number ≡ pos 7 → z .number ≡ pos 0 → w .number ≡ pos 6 → cond b x (cond t y (cond s z w)) .number ≡ ladder.callNumber 6 tt tt tt b t s
       by true t s x y z w p q r o = p
       by false true s x y z w p q r o = q
       by false false true x y z w p q r o = r
@@ -98,22 +98,22 @@ module _ (d : Drive) (ia ib count : ℤ) where
 
   -- 14: a broken record, before every other number
   pub step-14 : (step .number ≡ pos 14) ↔ (broken d ≡ true)
-  step-14 = same number-stepped (ladder.step-14 (broken d) (d .tripped) (sampleOk ia ib count))
+  step-14 = same number-stepped (ladder.call-14 6 tt tt tt (broken d) (d .tripped) (sampleOk ia ib count))
 
   -- 7: a tripped drive, before 6
   pub step-7 : (step .number ≡ pos 7) ↔ ((broken d ≡ false) × (d .tripped ≡ true))
-  step-7 = same number-stepped (ladder.step-7 (broken d) (d .tripped) (sampleOk ia ib count))
+  step-7 = same number-stepped (ladder.call-7 6 tt tt tt (broken d) (d .tripped) (sampleOk ia ib count))
 
   -- 6: samples out of range
   pub step-6 : (step .number ≡ pos 6) ↔ ((broken d ≡ false) × (d .tripped ≡ false) × (sampleOk ia ib count ≡ false))
-  step-6 = same number-stepped (ladder.step-6 (broken d) (d .tripped) (sampleOk ia ib count))
+  step-6 = same number-stepped (ladder.call-own 6 tt tt tt (broken d) (d .tripped) (sampleOk ia ib count))
 
   -- 0: accepted
   pub step-0 : (step .number ≡ pos 0) ↔ ((broken d ≡ false) × (d .tripped ≡ false) × (sampleOk ia ib count ≡ true))
-  step-0 = same number-stepped (ladder.step-0 (broken d) (d .tripped) (sampleOk ia ib count))
+  step-0 = same number-stepped (ladder.call-0 6 tt tt tt (broken d) (d .tripped) (sampleOk ia ib count))
 
   pub step-free : Free (step .number)
-  step-free = subst Free (sym number-stepped) (ladder.step-free (broken d) (d .tripped) (sampleOk ia ib count))
+  step-free = subst Free (sym number-stepped) (ladder.call-free 6 tt tt tt (broken d) (d .tripped) (sampleOk ia ib count) refl)
 
   -- 14: state same, compares 0, 0, 0
   pub step-broken : broken d ≡ true → step ≡ refused d (pos 14) (pos 0)
@@ -140,30 +140,30 @@ module _ (d : Drive) (wanted : ℤ) where
   abbrev target : Answered
   target = targeted d wanted
 
-  number-targeted : target .number ≡ ladder.targetNumber (broken d) (d .tripped) (inside (pos 8191) wanted)
+  number-targeted : target .number ≡ ladder.callNumber 8 tt tt tt (broken d) (d .tripped) (inside (pos 8191) wanted)
   unfolding targeted
   number-targeted = by (broken d) (d .tripped) (inside (pos 8191) wanted)
     where
-      by : (b t w : Bool) → cond b (with d (pos 14)) (cond t (with d (pos 7)) (cond w (with (aimed d wanted) (pos 0)) (with d (pos 8)))) .number ≡ ladder.targetNumber b t w
+      by : (b t w : Bool) → cond b (with d (pos 14)) (cond t (with d (pos 7)) (cond w (with (aimed d wanted) (pos 0)) (with d (pos 8)))) .number ≡ ladder.callNumber 8 tt tt tt b t w
       by true t w = refl
       by false true w = refl
       by false false true = refl
       by false false false = refl
 
   pub target-14 : (target .number ≡ pos 14) ↔ (broken d ≡ true)
-  target-14 = same number-targeted (ladder.target-14 (broken d) (d .tripped) (inside (pos 8191) wanted))
+  target-14 = same number-targeted (ladder.call-14 8 tt tt tt (broken d) (d .tripped) (inside (pos 8191) wanted))
 
   pub target-7 : (target .number ≡ pos 7) ↔ ((broken d ≡ false) × (d .tripped ≡ true))
-  target-7 = same number-targeted (ladder.target-7 (broken d) (d .tripped) (inside (pos 8191) wanted))
+  target-7 = same number-targeted (ladder.call-7 8 tt tt tt (broken d) (d .tripped) (inside (pos 8191) wanted))
 
   pub target-8 : (target .number ≡ pos 8) ↔ ((broken d ≡ false) × (d .tripped ≡ false) × (inside (pos 8191) wanted ≡ false))
-  target-8 = same number-targeted (ladder.target-8 (broken d) (d .tripped) (inside (pos 8191) wanted))
+  target-8 = same number-targeted (ladder.call-own 8 tt tt tt (broken d) (d .tripped) (inside (pos 8191) wanted))
 
   pub target-0 : (target .number ≡ pos 0) ↔ ((broken d ≡ false) × (d .tripped ≡ false) × (inside (pos 8191) wanted ≡ true))
-  target-0 = same number-targeted (ladder.target-0 (broken d) (d .tripped) (inside (pos 8191) wanted))
+  target-0 = same number-targeted (ladder.call-0 8 tt tt tt (broken d) (d .tripped) (inside (pos 8191) wanted))
 
   pub target-free : Free (target .number)
-  target-free = subst Free (sym number-targeted) (ladder.target-free (broken d) (d .tripped) (inside (pos 8191) wanted))
+  target-free = subst Free (sym number-targeted) (ladder.call-free 8 tt tt tt (broken d) (d .tripped) (inside (pos 8191) wanted) refl)
 
   -- refused, the state is the same; accepted, the target is replaced and nothing else
   pub target-broken : broken d ≡ true → target ≡ with d (pos 14)
@@ -187,26 +187,26 @@ module _ (d : Drive) where
   abbrev clear : Answered
   clear = cleared d
 
-  number-cleared : clear .number ≡ ladder.clearNumber (broken d) (d .tripped)
+  number-cleared : clear .number ≡ ladder.shortNumber 10 tt tt (broken d) (d .tripped)
   unfolding cleared
   number-cleared = by (broken d) (d .tripped)
     where
-      by : (b t : Bool) → cond b (with d (pos 14)) (cond t (with (fresh (d .settings)) (pos 0)) (with d (pos 10))) .number ≡ ladder.clearNumber b t
+      by : (b t : Bool) → cond b (with d (pos 14)) (cond t (with (fresh (d .settings)) (pos 0)) (with d (pos 10))) .number ≡ ladder.shortNumber 10 tt tt b t
       by true t = refl
       by false true = refl
       by false false = refl
 
   pub clear-14 : (clear .number ≡ pos 14) ↔ (broken d ≡ true)
-  clear-14 = same number-cleared (ladder.clear-14 (broken d) (d .tripped))
+  clear-14 = same number-cleared (ladder.short-14 10 tt tt (broken d) (d .tripped))
 
   pub clear-10 : (clear .number ≡ pos 10) ↔ ((broken d ≡ false) × (d .tripped ≡ false))
-  clear-10 = same number-cleared (ladder.clear-10 (broken d) (d .tripped))
+  clear-10 = same number-cleared (ladder.short-own 10 tt tt (broken d) (d .tripped))
 
   pub clear-0 : (clear .number ≡ pos 0) ↔ ((broken d ≡ false) × (d .tripped ≡ true))
-  clear-0 = same number-cleared (ladder.clear-0 (broken d) (d .tripped))
+  clear-0 = same number-cleared (ladder.short-0 10 tt tt (broken d) (d .tripped))
 
   pub clear-free : Free (clear .number)
-  clear-free = subst Free (sym number-cleared) (ladder.clear-free (broken d) (d .tripped))
+  clear-free = subst Free (sym number-cleared) (ladder.short-free 10 tt tt (broken d) (d .tripped) refl)
 
   -- refused, the state is the same; accepted, it is the fresh drive of the same settings
   pub clear-broken : broken d ≡ true → clear ≡ with d (pos 14)
@@ -232,27 +232,27 @@ module _ (d : Drive) (samples out : List ℤ) where
   abbrev run : Ran
   run = runOf d samples out
 
-  number-ran : run .number ≡ ladder.runNumber (broken d) (rowsFit (length samples) (length out))
+  number-ran : run .number ≡ ladder.shortNumber 9 tt tt (broken d) (rowsFit (length samples) (length out))
   unfolding runOf none
   number-ran = by (broken d) (rowsFit (length samples) (length out)) (ranOf d samples (rowsIn samples)) (own d samples (rowsIn samples))
     where
-      by : (b f : Bool) (r : Ran) → r .number ≡ pos 0 → cond b (none d (pos 14)) (cond f r (none d (pos 9))) .number ≡ ladder.runNumber b f
+      by : (b f : Bool) (r : Ran) → r .number ≡ pos 0 → cond b (none d (pos 14)) (cond f r (none d (pos 9))) .number ≡ ladder.shortNumber 9 tt tt b f
       by true f r e = refl
       by false true r e = e
       by false false r e = refl
 
   pub run-14 : (run .number ≡ pos 14) ↔ (broken d ≡ true)
-  run-14 = same number-ran (ladder.run-14 (broken d) (rowsFit (length samples) (length out)))
+  run-14 = same number-ran (ladder.short-14 9 tt tt (broken d) (rowsFit (length samples) (length out)))
 
   -- 9: samples not in threes, or output shorter than four numbers a row
   pub run-9 : (run .number ≡ pos 9) ↔ ((broken d ≡ false) × (rowsFit (length samples) (length out) ≡ false))
-  run-9 = same number-ran (ladder.run-9 (broken d) (rowsFit (length samples) (length out)))
+  run-9 = same number-ran (ladder.short-own 9 tt tt (broken d) (rowsFit (length samples) (length out)))
 
   pub run-0 : (run .number ≡ pos 0) ↔ ((broken d ≡ false) × (rowsFit (length samples) (length out) ≡ true))
-  run-0 = same number-ran (ladder.run-0 (broken d) (rowsFit (length samples) (length out)))
+  run-0 = same number-ran (ladder.short-0 9 tt tt (broken d) (rowsFit (length samples) (length out)))
 
   pub run-free : Free (run .number)
-  run-free = subst Free (sym number-ran) (ladder.run-free (broken d) (rowsFit (length samples) (length out)))
+  run-free = subst Free (sym number-ran) (ladder.short-free 9 tt tt (broken d) (rowsFit (length samples) (length out)) refl)
 
   -- refused, nothing is written, the state is the same and both counts are 0
   pub run-broken : broken d ≡ true → (run ≡ none d (pos 14)) × (outOf d samples out ≡ out)

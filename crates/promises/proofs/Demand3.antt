@@ -134,50 +134,55 @@ module _ (d : Drive) (ia ib count : ℤ) (ok : stepped d ia ib count .number ≡
   abbrev ticked : Drive
   ticked = commanded d (measured (counted (d .shaft) count) (d .settings .kn))
 
-  new-command : thirtieth (d .shaft) ≡ true → new .command ≡ ticked .command
-  unfolding next advanced driven pulsed outcome withField turned
-  new-command t = ap (λ s. s .drive .command) rules ∙ ap (λ b. cond b ticked (withShaft d (counted (d .shaft) count)) .command) t
+  abbrev plain : Drive
+  plain = withShaft d (counted (d .shaft) count)
 
-  new-shaft : thirtieth (d .shaft) ≡ true → new .shaft ≡ ticked .shaft
-  unfolding next advanced driven pulsed outcome withField turned
-  new-shaft t = ap (λ s. s .drive .shaft) rules ∙ ap (λ b. cond b ticked (withShaft d (counted (d .shaft) count)) .shaft) t
+  -- rules 3 to 9 leave what rules 1 and 2 gave, and these are a tick or none
+  mid-is : (b : Bool) → thirtieth (d .shaft) ≡ b → mid ≡ cond b ticked plain
+  unfolding turned
+  mid-is b t = ap (λ b. cond b ticked plain) t
 
-  new-speed : thirtieth (d .shaft) ≡ true → new .integrals .speed ≡ ticked .integrals .speed
-  unfolding next advanced driven pulsed outcome withField voltageFor voltageOf turned
-  new-speed t = ap (λ s. s .drive .integrals .speed) rules ∙ ap (λ b. cond b ticked (withShaft d (counted (d .shaft) count)) .integrals .speed) t
+  new-command : (b : Bool) → thirtieth (d .shaft) ≡ b → new .command ≡ cond b ticked plain .command
+  unfolding next advanced driven pulsed outcome withField
+  new-command b t = ap (λ s. s .drive .command) rules ∙ ap (λ m. m .command) (mid-is b t)
+
+  new-shaft : (b : Bool) → thirtieth (d .shaft) ≡ b → new .shaft ≡ cond b ticked plain .shaft
+  unfolding next advanced driven pulsed outcome withField
+  new-shaft b t = ap (λ s. s .drive .shaft) rules ∙ ap (λ m. m .shaft) (mid-is b t)
+
+  new-speed : (b : Bool) → thirtieth (d .shaft) ≡ b → new .integrals .speed ≡ cond b ticked plain .integrals .speed
+  unfolding next advanced driven pulsed outcome withField voltageFor voltageOf
+  new-speed b t = ap (λ s. s .drive .integrals .speed) rules ∙ ap (λ m. m .integrals .speed) (mid-is b t)
 
   speed : Lawful (speedGains (d .settings))
   speed = kept.speed-lawful (d .settings) (met .settings)
 
   error-is : thirtieth (d .shaft) ≡ true → speedError d ia ib count ≡ ticked .command .reference -ℤ ticked .shaft .speed
   unfolding speedError
-  error-is t = ap₂ (λ (r n : ℤ). r -ℤ n) (ap (λ c. c .reference) (new-command t)) (ap (λ s. s .speed) (new-shaft t))
+  error-is t = ap₂ (λ (r n : ℤ). r -ℤ n) (ap (λ c. c .reference) (new-command true t)) (ap (λ s. s .speed) (new-shaft true t))
 
   pub speed-between : thirtieth (d .shaft) ≡ true → Between (d .integrals .speed) (new .integrals .speed) (new .command .torque)
   unfolding commanded withCommand withTorque withSpeed speedRegulated regulated
   speed-between t =
-      subst (λ (o : ℤ). Between (d .integrals .speed) (new .integrals .speed) o) (sym (ap (λ c. c .torque) (new-command t)))
-      (renamed refl (new-speed t) (fact.next-between (d .integrals .speed) _ (speedGains (d .settings)) (d .settings .q) speed (size.q-lo d met)))
+      subst (λ (o : ℤ). Between (d .integrals .speed) (new .integrals .speed) o) (sym (ap (λ c. c .torque) (new-command true t)))
+      (renamed refl (new-speed true t) (fact.next-between (d .integrals .speed) _ (speedGains (d .settings)) (d .settings .q) speed (size.q-lo d met)))
 
   pub speed-leaves-top : thirtieth (d .shaft) ≡ true → speedError d ia ib count <ℤ pos 0 → new .command .torque <ℤ d .settings .q
   unfolding commanded withCommand withTorque withSpeed speedRegulated regulated
   speed-leaves-top t e =
-      subst (λ (o : ℤ). o <ℤ d .settings .q) (sym (ap (λ c. c .torque) (new-command t)))
+      subst (λ (o : ℤ). o <ℤ d .settings .q) (sym (ap (λ c. c .torque) (new-command true t)))
       (fact.leaves-top (d .integrals .speed) _ (speedGains (d .settings)) (d .settings .q) speed (size.q-lo d met) (within-hi (negℤ (d .settings .q)) (d .settings .q) (d .integrals .speed) (met .integrals .speed)) (subst (λ (k : ℤ). k <ℤ pos 0) (error-is t) e))
 
   pub speed-leaves-bottom : thirtieth (d .shaft) ≡ true → pos 4096 ≤ℤ (speedError d ia ib count *ℤ d .settings .skp) → negℤ (d .settings .q) <ℤ new .command .torque
   unfolding commanded withCommand withTorque withSpeed speedRegulated regulated speedGains
   speed-leaves-bottom t e =
-      subst (λ (o : ℤ). negℤ (d .settings .q) <ℤ o) (sym (ap (λ c. c .torque) (new-command t)))
+      subst (λ (o : ℤ). negℤ (d .settings .q) <ℤ o) (sym (ap (λ c. c .torque) (new-command true t)))
       (fact.leaves-bottom (d .integrals .speed) _ (speedGains (d .settings)) (d .settings .q) speed (size.q-lo d met) (within-lo (negℤ (d .settings .q)) (d .settings .q) (d .integrals .speed) (met .integrals .speed)) (subst (λ (k : ℤ). pos 4096 ≤ℤ (k *ℤ d .settings .skp)) (error-is t) e))
 
   -- between two ticks it does not run: integral and torque reference stay
   pub speed-stays : thirtieth (d .shaft) ≡ false → (new .integrals .speed ≡ d .integrals .speed) × (new .command .torque ≡ d .command .torque)
-  unfolding next advanced driven pulsed outcome withField voltageFor voltageOf turned withShaft
-  speed-stays t = (
-    ap (λ s. s .drive .integrals .speed) rules ∙ ap (λ b. cond b ticked (withShaft d (counted (d .shaft) count)) .integrals .speed) t,
-    ap (λ s. s .drive .command .torque) rules ∙ ap (λ b. cond b ticked (withShaft d (counted (d .shaft) count)) .command .torque) t,
-  )
+  unfolding withShaft
+  speed-stays t = (new-speed false t, ap (λ c. c .torque) (new-command false t))
 
   -- ════ the pulses
   abbrev pulses : Pulses

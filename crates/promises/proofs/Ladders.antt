@@ -81,132 +81,63 @@ settings-free true true true false e = refl
 settings-free true true true true false = refl
 settings-free true true true true true = refl
 
--- ════ a call: broken, tripped, and then a test that gives 0, or else its own number, which is none of the others
+-- ════ a step (its own number is 6) and a target (8): broken, tripped, and then a test that gives 0, or else the call's own number, which
+-- is none of the others
 module _ (own : ℕ) (u : T (not (eqb own 14))) (v : T (not (eqb own 7))) (w : T (not (eqb own 0))) where
-  abbrev callNumber : Bool → Bool → Bool → ℤ
+  abbrev pub callNumber : Bool → Bool → Bool → ℤ
   callNumber b t s = cond b (pos 14) (cond t (pos 7) (cond s (pos 0) (pos own)))
 
-  call-14 : (b t s : Bool) → (callNumber b t s ≡ pos 14) ↔ (b ≡ true)
+  pub call-14 : (b t s : Bool) → (callNumber b t s ≡ pos 14) ↔ (b ≡ true)
   call-14 true t s = (λ h. refl, λ h. refl)
   call-14 false true s = (λ h. differ 7 14 tt h, λ h. absurd (false≢true h))
   call-14 false false true = (λ h. differ 0 14 tt h, λ h. absurd (false≢true h))
   call-14 false false false = (λ h. differ own 14 u h, λ h. absurd (false≢true h))
 
-  call-7 : (b t s : Bool) → (callNumber b t s ≡ pos 7) ↔ ((b ≡ false) × (t ≡ true))
+  pub call-7 : (b t s : Bool) → (callNumber b t s ≡ pos 7) ↔ ((b ≡ false) × (t ≡ true))
   call-7 true t s = (λ h. differ 14 7 tt h, λ h. absurd (true≢false (h .0)))
   call-7 false true s = (λ h. (refl, refl), λ h. refl)
   call-7 false false true = (λ h. differ 0 7 tt h, λ h. absurd (false≢true (h .1)))
   call-7 false false false = (λ h. differ own 7 v h, λ h. absurd (false≢true (h .1)))
 
-  call-0 : (b t s : Bool) → (callNumber b t s ≡ pos 0) ↔ ((b ≡ false) × (t ≡ false) × (s ≡ true))
+  pub call-0 : (b t s : Bool) → (callNumber b t s ≡ pos 0) ↔ ((b ≡ false) × (t ≡ false) × (s ≡ true))
   call-0 true t s = (λ h. differ 14 0 tt h, λ h. absurd (true≢false (h .0)))
   call-0 false true s = (λ h. differ 7 0 tt h, λ h. absurd (true≢false (h .1)))
   call-0 false false true = (λ h. (refl, refl, refl), λ h. refl)
   call-0 false false false = (λ h. differ own 0 w h, λ h. absurd (false≢true (h .2)))
 
-  call-own : (b t s : Bool) → (callNumber b t s ≡ pos own) ↔ ((b ≡ false) × (t ≡ false) × (s ≡ false))
+  pub call-own : (b t s : Bool) → (callNumber b t s ≡ pos own) ↔ ((b ≡ false) × (t ≡ false) × (s ≡ false))
   call-own true t s = (λ h. differ own 14 u (sym h), λ h. absurd (true≢false (h .0)))
   call-own false true s = (λ h. differ own 7 v (sym h), λ h. absurd (true≢false (h .1)))
   call-own false false true = (λ h. differ own 0 w (sym h), λ h. absurd (true≢false (h .2)))
   call-own false false false = (λ h. (refl, refl, refl), λ h. refl)
 
-  call-free : (b t s : Bool) → Free (pos own) → Free (callNumber b t s)
+  pub call-free : (b t s : Bool) → Free (pos own) → Free (callNumber b t s)
   call-free true t s k = refl
   call-free false true s k = refl
   call-free false false true k = refl
   call-free false false false k = k
 
--- a step: its own number, where the samples are not good, is 6
-abbrev pub stepNumber : Bool → Bool → Bool → ℤ
-stepNumber b t s = callNumber 6 tt tt tt b t s
-
-pub step-14 : (b t s : Bool) → (stepNumber b t s ≡ pos 14) ↔ (b ≡ true)
-step-14 = call-14 6 tt tt tt
-
-pub step-7 : (b t s : Bool) → (stepNumber b t s ≡ pos 7) ↔ ((b ≡ false) × (t ≡ true))
-step-7 = call-7 6 tt tt tt
-
-pub step-0 : (b t s : Bool) → (stepNumber b t s ≡ pos 0) ↔ ((b ≡ false) × (t ≡ false) × (s ≡ true))
-step-0 = call-0 6 tt tt tt
-
-pub step-6 : (b t s : Bool) → (stepNumber b t s ≡ pos 6) ↔ ((b ≡ false) × (t ≡ false) × (s ≡ false))
-step-6 = call-own 6 tt tt tt
-
-pub step-free : (b t s : Bool) → Free (stepNumber b t s)
-step-free b t s = call-free 6 tt tt tt b t s refl
-
--- a target: its own number, where it is out of its range, is 8
-abbrev pub targetNumber : Bool → Bool → Bool → ℤ
-targetNumber b t w = callNumber 8 tt tt tt b t w
-
-pub target-14 : (b t w : Bool) → (targetNumber b t w ≡ pos 14) ↔ (b ≡ true)
-target-14 = call-14 8 tt tt tt
-
-pub target-7 : (b t w : Bool) → (targetNumber b t w ≡ pos 7) ↔ ((b ≡ false) × (t ≡ true))
-target-7 = call-7 8 tt tt tt
-
-pub target-0 : (b t w : Bool) → (targetNumber b t w ≡ pos 0) ↔ ((b ≡ false) × (t ≡ false) × (w ≡ true))
-target-0 = call-0 8 tt tt tt
-
-pub target-8 : (b t w : Bool) → (targetNumber b t w ≡ pos 8) ↔ ((b ≡ false) × (t ≡ false) × (w ≡ false))
-target-8 = call-own 8 tt tt tt
-
-pub target-free : (b t w : Bool) → Free (targetNumber b t w)
-target-free b t w = call-free 8 tt tt tt b t w refl
-
--- ════ broken, and then a test that gives 0, or else its own number
+-- ════ a clear (10) and a run (9): broken, and then a test that gives 0, or else the call's own number
 module _ (own : ℕ) (u : T (not (eqb own 14))) (v : T (not (eqb own 0))) where
-  abbrev shortNumber : Bool → Bool → ℤ
+  abbrev pub shortNumber : Bool → Bool → ℤ
   shortNumber b s = cond b (pos 14) (cond s (pos 0) (pos own))
 
-  short-14 : (b s : Bool) → (shortNumber b s ≡ pos 14) ↔ (b ≡ true)
+  pub short-14 : (b s : Bool) → (shortNumber b s ≡ pos 14) ↔ (b ≡ true)
   short-14 true s = (λ h. refl, λ h. refl)
   short-14 false true = (λ h. differ 0 14 tt h, λ h. absurd (false≢true h))
   short-14 false false = (λ h. differ own 14 u h, λ h. absurd (false≢true h))
 
-  short-0 : (b s : Bool) → (shortNumber b s ≡ pos 0) ↔ ((b ≡ false) × (s ≡ true))
+  pub short-0 : (b s : Bool) → (shortNumber b s ≡ pos 0) ↔ ((b ≡ false) × (s ≡ true))
   short-0 true s = (λ h. differ 14 0 tt h, λ h. absurd (true≢false (h .0)))
   short-0 false true = (λ h. (refl, refl), λ h. refl)
   short-0 false false = (λ h. differ own 0 v h, λ h. absurd (false≢true (h .1)))
 
-  short-own : (b s : Bool) → (shortNumber b s ≡ pos own) ↔ ((b ≡ false) × (s ≡ false))
+  pub short-own : (b s : Bool) → (shortNumber b s ≡ pos own) ↔ ((b ≡ false) × (s ≡ false))
   short-own true s = (λ h. differ own 14 u (sym h), λ h. absurd (true≢false (h .0)))
   short-own false true = (λ h. differ own 0 v (sym h), λ h. absurd (true≢false (h .1)))
   short-own false false = (λ h. (refl, refl), λ h. refl)
 
-  short-free : (b s : Bool) → Free (pos own) → Free (shortNumber b s)
+  pub short-free : (b s : Bool) → Free (pos own) → Free (shortNumber b s)
   short-free true s k = refl
   short-free false true k = refl
   short-free false false k = k
-
--- a clear: 10 where the drive is not tripped
-abbrev pub clearNumber : Bool → Bool → ℤ
-clearNumber b t = shortNumber 10 tt tt b t
-
-pub clear-14 : (b t : Bool) → (clearNumber b t ≡ pos 14) ↔ (b ≡ true)
-clear-14 = short-14 10 tt tt
-
-pub clear-0 : (b t : Bool) → (clearNumber b t ≡ pos 0) ↔ ((b ≡ false) × (t ≡ true))
-clear-0 = short-0 10 tt tt
-
-pub clear-10 : (b t : Bool) → (clearNumber b t ≡ pos 10) ↔ ((b ≡ false) × (t ≡ false))
-clear-10 = short-own 10 tt tt
-
-pub clear-free : (b t : Bool) → Free (clearNumber b t)
-clear-free b t = short-free 10 tt tt b t refl
-
--- a run: 9 where the rows do not fit
-abbrev pub runNumber : Bool → Bool → ℤ
-runNumber b f = shortNumber 9 tt tt b f
-
-pub run-14 : (b f : Bool) → (runNumber b f ≡ pos 14) ↔ (b ≡ true)
-run-14 = short-14 9 tt tt
-
-pub run-0 : (b f : Bool) → (runNumber b f ≡ pos 0) ↔ ((b ≡ false) × (f ≡ true))
-run-0 = short-0 9 tt tt
-
-pub run-9 : (b f : Bool) → (runNumber b f ≡ pos 9) ↔ ((b ≡ false) × (f ≡ false))
-run-9 = short-own 9 tt tt
-
-pub run-free : (b f : Bool) → Free (runNumber b f)
-run-free b f = short-free 9 tt tt b f refl

@@ -3,7 +3,7 @@ use mathlib.Core.Bool.{true, false}
 use lib.IntN.{ℤ, pos}
 use Rattle.record.specs.declared.Settings.{Settings}
 use Rattle.record.specs.declared.Drive.{Drive}
-use Rattle.record.specs.Bench.{bench}
+use Rattle.record.specs.Bench.{benchWith, bench}
 
 -- before a tick: 29 steps in the window, in which the shaft moved by the sum; the target 100 away
 unfoldable pub waiting : ℤ → Drive
@@ -29,20 +29,4 @@ spoiled = record {
 
 -- settings that are refused: the bench set with document 004's gains 4.0, 0.125, 0.125
 unfoldable pub untied : Settings
-untied = record {
-  t = pos 600;
-  skp = pos 8192;
-  skcor = pos 64;
-  ski = pos 128;
-  ckp = pos 16384;
-  ckcor = pos 512;
-  cki = pos 512;
-  v = pos 4096;
-  q = pos 3277;
-  kr = pos 75;
-  kt = pos 310;
-  kth = pos 164;
-  kn = pos 64;
-  f = pos 2458;
-  r = pos 41;
-}
+untied = benchWith (pos 16384) (pos 512) (pos 512)

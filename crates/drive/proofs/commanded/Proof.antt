@@ -5,7 +5,6 @@ use mir.Syntax.{w32}
 use Rattle.fixed.proofs.Equal.{ap₃}
 use Rattle.fixed.proofs.Reading.{Reads, m32, local, stored, result, bound}
 use Rattle.record.specs.declared.Command.{Command}
-use Rattle.record.specs.Record.{sound}
 use Rattle.drive.specs.Step.{rampedBy, speedRegulated, withCommand, commanded}
 use Rattle.record.proofs.Ranges.{sound→, accepted←}
 use Rattle.drive.proofs.Sizes as size

@@ -8,7 +8,6 @@ use Rattle.fixed.proofs.Reading.{local, bound}
 use Rattle.regulator.specs.declared.Regulated.{Regulated}
 use Rattle.regulator.proofs.RegulatedTold.{told as regulated-told}
 use Rattle.frames.proofs.RotorTold.{told as rotor-told}
-use Rattle.record.specs.Record.{accepted}
 use Rattle.drive.specs.Step.{currentRegulated, dRegulated, qRegulated, voltageOf, voltageFor}
 use Rattle.record.proofs.Ranges.{Sound, sound→, accepted←}
 use Rattle.drive.proofs.Sizes as size
