@@ -17,11 +17,30 @@ static mirgalhet_settings bench(void)
     return s;
 }
 
+/* No two words are the same, so that one that stood in another's place would show in what the drive does. */
+static mirgalhet_settings distinct(void)
+{
+    mirgalhet_settings s = {
+        .t = 1000,
+        .skp = 8192, .skcor = 64, .ski = 128,
+        .ckp = 2048, .ckcor = 512, .cki = 256,
+        .v = 900, .q = 3277,
+        .kr = 75, .kt = 310, .kth = 164,
+        .kn = 63, .f = 2458, .r = 41,
+    };
+    return s;
+}
+
 static mirgalhet_output row(mirgalhet_drive *d, int32_t ia, int32_t ib, int32_t count)
 {
     mirgalhet_output o = mirgalhet_step(d, ia, ib, count);
     printf("%d %d %d %d\n", (int)o.a, (int)o.b, (int)o.c, (int)o.number);
     return o;
+}
+
+static void voltage(mirgalhet_output o)
+{
+    printf("voltage %d %d clipped %d\n", (int)o.alpha, (int)o.beta, (int)o.clipped);
 }
 
 /* Word by word: the bytes between the words say nothing. */
@@ -36,53 +55,88 @@ static bool same(const mirgalhet_drive *x, const mirgalhet_drive *y)
         && x->tripped == y->tripped;
 }
 
+static void words(const mirgalhet_drive *d)
+{
+    printf("count %d seen %d sum %d steps %d speed %d\n",
+           (int)d->shaft.count, (int)d->shaft.seen, (int)d->shaft.sum, (int)d->shaft.steps, (int)d->shaft.speed);
+    printf("target %d reference %d torque %d flux %d\n",
+           (int)d->command.target, (int)d->command.reference, (int)d->command.torque, (int)d->command.flux);
+    printf("field flux %d angle %d\n", (int)d->field.flux, (int)d->field.angle);
+    printf("integrals %d %d %d tripped %d\n",
+           (int)d->integrals.speed, (int)d->integrals.d, (int)d->integrals.q, (int)d->tripped);
+}
+
 static const char *kept(bool yes)
 {
     return yes ? "record as it was" : "record changed";
 }
 
+/* Document 01's three rows: a step, a sample out of range, which trips, and a step of the tripped drive. */
+static void rows(mirgalhet_drive *d)
+{
+    mirgalhet_drive before;
+
+    voltage(row(d, 0, 0, 0));
+    before = *d;
+    row(d, 9000, 0, 0);
+    printf("tripped %d\n", (int)d->tripped);
+    d->tripped = false;
+    printf("but for the mark: %s\n", kept(same(d, &before)));
+    d->tripped = true;
+    row(d, 0, 0, 0);
+}
+
+/* On a tripped drive: after a clear it runs again, and a target is taken. */
+static void cleared(mirgalhet_drive *d)
+{
+    printf("clear %d\n", (int)mirgalhet_clear(d));
+    printf("clear %d\n", (int)mirgalhet_clear(d));
+    printf("target %d\n", (int)mirgalhet_target(d, 8192));
+    printf("target %d\n", (int)mirgalhet_target(d, 100));
+    printf("in the record %d\n", (int)d->command.target);
+    row(d, 0, 0, 0);
+}
+
+/* A word out of its range: nothing is done with the record until accepted settings replace it. */
+static void broken(mirgalhet_drive *d)
+{
+    mirgalhet_drive before;
+    mirgalhet_settings s = bench();
+    int32_t number;
+
+    d->field.angle = 65536;
+    before = *d;
+    row(d, 0, 0, 0);
+    printf("target %d\n", (int)mirgalhet_target(d, 100));
+    printf("clear %d\n", (int)mirgalhet_clear(d));
+    s.t = 99;
+    number = mirgalhet_start(d, s);
+    printf("start %d, %s\n", (int)number, kept(same(d, &before)));
+    printf("start %d\n", (int)mirgalhet_start(d, bench()));
+    row(d, 0, 0, 0);
+}
+
+/* Past a tick, and every word of the record then. */
+static void ticked(mirgalhet_drive *d)
+{
+    printf("start %d\n", (int)mirgalhet_start(d, distinct()));
+    printf("target %d\n", (int)mirgalhet_target(d, 100));
+    for (int32_t k = 0; k < 31; k++)
+        mirgalhet_step(d, 1000, -300, 700 * k);
+    voltage(row(d, 1000, -300, 700 * 31));
+    words(d);
+}
+
 int main(void)
 {
     mirgalhet_drive d = {0};
-    mirgalhet_drive before;
-    mirgalhet_settings s = bench();
-    mirgalhet_output o;
-    int32_t number;
 
     /* a zeroed record is broken, until it is started */
     row(&d, 0, 0, 0);
-    printf("start %d\n", (int)mirgalhet_start(&d, s));
-
-    /* document 01's three rows */
-    o = row(&d, 0, 0, 0);
-    printf("voltage %d %d clipped %d\n", (int)o.alpha, (int)o.beta, (int)o.clipped);
-    before = d;
-    row(&d, 9000, 0, 0);
-    printf("tripped %d\n", (int)d.tripped);
-    d.tripped = false;
-    printf("but for the mark: %s\n", kept(same(&d, &before)));
-    d.tripped = true;
-    row(&d, 0, 0, 0);
-
-    printf("clear %d\n", (int)mirgalhet_clear(&d));
-    printf("clear %d\n", (int)mirgalhet_clear(&d));
-    printf("target %d\n", (int)mirgalhet_target(&d, 8192));
-    printf("target %d\n", (int)mirgalhet_target(&d, 100));
-    printf("in the record %d\n", (int)d.command.target);
-    row(&d, 0, 0, 0);
-
-    /* a word out of its range */
-    d.field.angle = 65536;
-    before = d;
-    row(&d, 0, 0, 0);
-    printf("target %d\n", (int)mirgalhet_target(&d, 100));
-    printf("clear %d\n", (int)mirgalhet_clear(&d));
-    s.t = 99;
-    number = mirgalhet_start(&d, s);
-    printf("start %d, %s\n", (int)number, kept(same(&d, &before)));
-
-    /* accepted settings replace even a broken record */
     printf("start %d\n", (int)mirgalhet_start(&d, bench()));
-    row(&d, 0, 0, 0);
+    rows(&d);
+    cleared(&d);
+    broken(&d);
+    ticked(&d);
     return 0;
 }
