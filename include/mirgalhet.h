@@ -7,6 +7,9 @@
  * Link with target/staticlib/libinterrupt.a, which `rt staticlib interrupt` writes for x86-64. It needs no library, calls nothing
  * outside itself, allocates nothing and keeps nothing between calls: all there is of a drive is its record. Two drives are two records.
  *
+ * A caller in Rust declares the structs `#[repr(C)]` with their words in this order, and the functions as `extern "C"` on `&mut` of the
+ * record.
+ *
  * What a caller owes, since no function can test it:
  *   - d points to a record, and nothing else reads or writes it during a call. A call made in an interrupt must not come in the
  *     middle of another on the same record.
