@@ -1,4 +1,5 @@
-/* Every call on a drive record in place, and what each hands back. bin/interrupt_example compares what this writes with interrupt.out. */
+/* Every call on a drive record in place, with every number that it hands back. bin/interrupt_example compares what this writes with
+ * interrupt.out. */
 #include <stdio.h>
 #include <string.h>
 
@@ -89,6 +90,7 @@ static void rows(mirgalhet_drive *d)
 /* On a tripped drive: after a clear it runs again, and a target is taken. */
 static void cleared(mirgalhet_drive *d)
 {
+    printf("target %d\n", (int)mirgalhet_target(d, 100));
     printf("clear %d\n", (int)mirgalhet_clear(d));
     printf("clear %d\n", (int)mirgalhet_clear(d));
     printf("target %d\n", (int)mirgalhet_target(d, 8192));
@@ -97,21 +99,33 @@ static void cleared(mirgalhet_drive *d)
     row(d, 0, 0, 0);
 }
 
+/* Settings with one word wrong, for each number that refuses them. */
+static void refused(mirgalhet_drive *d)
+{
+    const mirgalhet_drive before = *d;
+    mirgalhet_settings wrong[5];
+
+    for (int k = 0; k < 5; k++)
+        wrong[k] = bench();
+    wrong[0].t = 99;
+    wrong[1].skp = 0;
+    wrong[2].ski = 129;
+    wrong[3].v = 0;
+    wrong[4].f = 409;
+    for (int k = 0; k < 5; k++) {
+        int32_t number = mirgalhet_start(d, wrong[k]);
+        printf("start %d, %s\n", (int)number, kept(same(d, &before)));
+    }
+}
+
 /* A word out of its range: nothing is done with the record until accepted settings replace it. */
 static void broken(mirgalhet_drive *d)
 {
-    mirgalhet_drive before;
-    mirgalhet_settings s = bench();
-    int32_t number;
-
     d->field.angle = 65536;
-    before = *d;
     row(d, 0, 0, 0);
     printf("target %d\n", (int)mirgalhet_target(d, 100));
     printf("clear %d\n", (int)mirgalhet_clear(d));
-    s.t = 99;
-    number = mirgalhet_start(d, s);
-    printf("start %d, %s\n", (int)number, kept(same(d, &before)));
+    refused(d);
     printf("start %d\n", (int)mirgalhet_start(d, bench()));
     row(d, 0, 0, 0);
 }

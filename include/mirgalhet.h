@@ -115,14 +115,14 @@ typedef struct mirgalhet_output {
 } mirgalhet_output;
 
 /* A fresh drive with these settings in the place of *d. The lowest number that applies is given.
- *   0        *d is the fresh drive: not tripped, everything 0 but the flux reference, which is F.
+ *   0        *d is the fresh drive of these settings: not tripped, every other word 0 but the flux reference, which is F.
  *   1 to 5   the settings are refused; *d is as it was.
  * What *d was plays no part in the number, so a broken or a tripped drive can be replaced too. */
 int32_t mirgalhet_start(mirgalhet_drive *d, mirgalhet_settings settings);
 
 /* One step, for the phase currents ia and ib and the encoder's count: call it once a period.
  *   0        the step is taken: *d is the drive after it.
- *   14       the record is broken: compares 0, 0, 0; *d is as it was. Comes before 7.
+ *   14       the record is broken: compares 0, 0, 0, so all phases are on alike; *d is as it was. Comes before 7.
  *   7        the drive is tripped: compares T, T, T, so no phase is on; *d is as it was. Comes before 6.
  *   6        the sample is refused: compares T, T, T; *d is as it was but marked tripped.
  * With 6, 7 and 14 nothing is clipped and the voltage is 0, 0. */
