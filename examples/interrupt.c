@@ -21,14 +21,12 @@ static mirgalhet_settings bench(void)
 /* No two words are the same, so that one that stood in another's place would show in what the drive does. */
 static mirgalhet_settings distinct(void)
 {
-    mirgalhet_settings s = {
-        .t = 1000,
-        .skp = 8192, .skcor = 64, .ski = 128,
-        .ckp = 2048, .ckcor = 512, .cki = 256,
-        .v = 900, .q = 3277,
-        .kr = 75, .kt = 310, .kth = 164,
-        .kn = 63, .f = 2458, .r = 41,
-    };
+    mirgalhet_settings s = bench();
+    s.t = 1000;
+    s.ckp = 2048;
+    s.ckcor = 512;
+    s.v = 900;
+    s.kn = 63;
     return s;
 }
 

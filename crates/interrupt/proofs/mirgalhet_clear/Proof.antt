@@ -1,5 +1,5 @@
--- `mirgalhet_clear` meets its contract: a record changed in place (InPlace), by `drive::clear`. That the contract says just that is the pair of
--- `refl`. Assumes nothing.
+-- `mirgalhet_clear` meets its contract: a record changed in place (InPlace), by `drive::clear`.
+-- That the contract says just that is the pair of `refl`. Assumes nothing.
 use mathlib.Core.Path.{refl}
 use mathlib.Core.List.{[]}
 use base.Logic.{emp}
