@@ -3,24 +3,27 @@
 ghost use mathlib.Core.Path.{_≡_};
 ghost use Prim.Native.Nat.{_+_, _≤_};
 ghost use lib.ListN.{length};
-ghost use Rattle.lines.specs.Chunk.{Inside};
 use drive::Answered;
 use drive::Made;
 use drive::Stepped;
 use field::Field;
 use frames::Stator;
-use lines::Reader;
+use libc::STDIN_FILENO;
 use modulation::Pulses;
 use record::Command;
 use record::Drive;
 use record::Integrals;
 use record::Settings;
 use shaft::Shaft;
+use text::Line;
 
-// What is kept from one line to the next: the reader, whether nothing more is to be read, and how many bytes of output wait.
+// What is kept from one byte to the next: the line at hand, how many came before it, whether a byte of it came; whether a line came that is
+// no call, after which nothing is looked at; and how many bytes of output wait.
 pub struct State {
-    pub reader: Reader,
-    pub done: bool,
+    pub line: Line,
+    pub before: u64,
+    pub begun: bool,
+    pub stopped: bool,
     pub place: usize,
 }
 
@@ -264,52 +267,118 @@ fn put_answer(n: &[i32], out: &mut [u8], at: usize) -> usize
     text::put_line(&words, k, out, at)
 }
 
-// One line: its call is answered, or it is the last that is read.
-fn answered_line(s: State, bytes: &mut [u8], numbers: &mut [i32], out: &mut [u8]) -> State
-    requires { ⌜ Inside (s .reader) (now bytes) × (34 ≤ length (now numbers)) × (s .place + 512 ≤ length (now out)) ⌝ }
-    ensures { λ r. ⌜ Inside (r .reader) (now (bytes .exit)) × (r .place + 512 ≤ length (now (out .entry))) ⌝ }
+// Held at the end, which no input reaches, so that it does not wrap.
+fn next(number: u64) -> u64 {
+    if number < u64::MAX {
+        number + 1
+    } else {
+        number
+    }
+}
+
+// What waits is sent where less room is left than an answer needs.
+fn flushed(out: &[u8], place: usize) -> usize
+    requires { ⌜ (place ≤ length (now out)) × (264 ≤ length (now out)) ⌝ }
+    ensures { λ r. ⌜ r + 264 ≤ length (now (out .entry)) ⌝ }
 {
-    let r = lines::next_line(s.reader, bytes, numbers);
+    if 264 <= out.len() - place {
+        return place;
+    }
+    output::send(out, place);
+    0
+}
+
+// One byte. At a line's end its call is answered, or it is the last that is read.
+fn fed_byte(s: State, b: u8, numbers: &mut [i32], out: &mut [u8]) -> State
+    requires { ⌜ (34 ≤ length (now numbers)) × (s .place + 264 ≤ length (now out)) ⌝ }
+    ensures { λ r. ⌜ r .place + 264 ≤ length (now (out .entry)) ⌝ }
+{
     let mut n = s;
-    n.reader = r;
-    n.done = true;
-    if lines::is_line(r) & is_call(numbers, r.line.count) {
-        let place = put_answer(numbers, out, s.place);
-        n.place = lines::flushed(out, place, 512);
-        n.done = false;
+    n.begun = true;
+    if b != b'\n' {
+        n.line = text::line_next(s.line, b, numbers);
+        return n;
+    }
+    let l = text::line_end(s.line, numbers);
+    if l.bad | !is_call(numbers, l.count) {
+        n.stopped = true;
+        return n;
+    }
+    let place = put_answer(numbers, out, s.place);
+    n.place = flushed(out, place);
+    n.line = text::line_start();
+    n.before = next(s.before);
+    n.begun = false;
+    n
+}
+
+fn fed(s: State, chunk: &[u8], numbers: &mut [i32], out: &mut [u8]) -> State
+    requires { ⌜ (34 ≤ length (now numbers)) × (s .place + 264 ≤ length (now out)) ⌝ }
+    ensures { λ r. ⌜ r .place + 264 ≤ length (now (out .entry)) ⌝ }
+{
+    let mut n = s;
+    let mut i = 0;
+    while i < chunk.len() && !n.stopped {
+        n = fed_byte(n, chunk[i], numbers, out);
+        i += 1;
     }
     n
 }
 
+// A chunk is read and fed. An error is taken as the end of the input, at which nothing more is looked at.
+fn turn(s: State, bytes: &mut [u8], numbers: &mut [i32], out: &mut [u8]) -> State
+    requires { ⌜ (34 ≤ length (now numbers)) × (s .place + 264 ≤ length (now out)) ⌝ }
+    ensures { λ r. ⌜ r .place + 264 ≤ length (now (out .entry)) ⌝ }
+{
+    let got = libc::read(STDIN_FILENO, bytes);
+    let size = io::count(got, bytes);
+    let mut n = fed(s, &bytes[..size], numbers, out);
+    n.stopped = n.stopped | (size == 0);
+    n
+}
+
 // A proved loop has to end, and nothing says that the input does: so the turns are counted, from a number that no run uses up.
-fn answered_lines(s: State, bytes: &mut [u8], numbers: &mut [i32], out: &mut [u8]) -> State
-    requires { ⌜ Inside (s .reader) (now bytes) × (34 ≤ length (now numbers)) × (s .place + 512 ≤ length (now out)) ⌝ }
-    ensures { λ r. ⌜ r .place + 512 ≤ length (now (out .entry)) ⌝ }
+fn passed(s: State, bytes: &mut [u8], numbers: &mut [i32], out: &mut [u8]) -> State
+    requires { ⌜ (34 ≤ length (now numbers)) × (s .place + 264 ≤ length (now out)) ⌝ }
+    ensures { λ r. ⌜ r .place + 264 ≤ length (now (out .entry)) ⌝ }
 {
     let mut n = s;
     let mut turns = u64::MAX;
-    while 0 < turns && !n.done {
-        n = answered_line(n, bytes, numbers, out);
+    while 0 < turns && !n.stopped {
+        n = turn(n, bytes, numbers, out);
         turns -= 1;
     }
     n
 }
 
 fn start() -> State
-    ensures { λ r. ⌜ (r .reader .at ≡ 0) × (r .reader .size ≡ 0) × (r .place ≡ 0) ⌝ }
+    ensures { λ r. ⌜ r .place ≡ 0 ⌝ }
 {
     State {
-        reader: lines::start(),
-        done: false,
+        line: text::line_start(),
+        before: 0,
+        begun: false,
+        stopped: false,
         place: 0,
     }
+}
+
+// What is written last: that a line is bad, where one is no call or has no line feed.
+fn ended(s: State, out: &mut [u8]) -> usize
+    requires { ⌜ s .place + 264 ≤ length (now out) ⌝ }
+    ensures { λ r. ⌜ r ≤ length (now (out .entry)) ⌝ }
+{
+    if s.begun {
+        return text::put_bad(next(s.before), out, s.place);
+    }
+    s.place
 }
 
 fn main() {
     let mut bytes = io::large_buffer();
     let mut numbers = [0i32; 34];
     let mut out = io::large_buffer();
-    let s = answered_lines(start(), &mut bytes, &mut numbers, &mut out);
-    let place = lines::put_end(s.reader, &mut out, s.place);
-    lines::send(&out, place);
+    let s = passed(start(), &mut bytes, &mut numbers, &mut out);
+    let place = ended(s, &mut out);
+    output::send(&out, place);
 }

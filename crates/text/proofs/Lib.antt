@@ -1,6 +1,7 @@
 pub mod Choice
 pub mod DecimalLaws
 pub mod Written
+pub mod TextLaws
 pub mod LineLaws
 pub mod Words
 pub mod Lines

@@ -43,6 +43,10 @@ numbersText (z ∷ zs) = textOf z ++ moreText zs
 unfoldable pub lineText : List ℤ → List ℕ
 lineText zs = numbersText zs ++ (10 ∷ [])
 
+-- `bad`, a space, the number of a line that is refused, and a line feed
+unfoldable pub badText : ℕ → List ℕ
+badText number = 98 ∷ 97 ∷ 100 ∷ 32 ∷ (countText number ++ (10 ∷ []))
+
 -- o with bs written over it from the place at on
 unfoldable pub written : List ℕ → ℕ → List ℕ → List ℕ
 written o at bs = take at o ++ (bs ++ drop (at + length bs) o)

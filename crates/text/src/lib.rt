@@ -16,7 +16,7 @@ ghost use Rattle.text.specs.Automaton.{
   numbersNext,
   numbersEnd,
 };
-ghost use Rattle.text.specs.Decimal.{lastDigits, countText, textOf, lineText, written};
+ghost use Rattle.text.specs.Decimal.{lastDigits, countText, textOf, lineText, badText, written};
 
 // A number that is being read: whether a minus sign, whether a digit came, whether it is no number, and its value without the sign.
 pub struct Word {
@@ -221,4 +221,27 @@ pub fn put_line(numbers: &[i32], k: usize, out: &mut [u8], at: usize) -> usize
         i += 1;
     }
     put_byte(10, out, place)
+}
+
+// Bytes at a place; answers the place after them.
+pub fn put_text(bytes: &[u8], out: &mut [u8], at: usize) -> usize
+    requires { ⌜ at + length (now bytes) ≤ length (now out) ⌝ }
+    ensures { λ r. ⌜ (r ≡ at + length (now (bytes .entry))) × (now (out .exit) ≡ written (now (out .entry)) at (now (bytes .entry))) ⌝ }
+{
+    let mut i = 0;
+    while i < bytes.len() {
+        out[at + i] = bytes[i];
+        i += 1;
+    }
+    at + i
+}
+
+// What a refused line is answered, for which there is room whatever its number is.
+pub fn put_bad(number: u64, out: &mut [u8], at: usize) -> usize
+    requires { ⌜ at + 25 ≤ length (now out) ⌝ }
+    ensures { λ r. ⌜ (r ≡ at + length (badText number)) × (now (out .exit) ≡ written (now (out .entry)) at (badText number)) × (r ≤ at + 25) ⌝ }
+{
+    let a = put_text(b"bad ", out, at);
+    let b = put_count(number, out, a);
+    put_byte(b'\n', out, b)
 }

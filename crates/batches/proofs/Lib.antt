@@ -1,3 +1,0 @@
-pub mod TextInPieces
-pub mod Passes
-pub mod Example

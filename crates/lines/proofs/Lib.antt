@@ -1,3 +1,0 @@
-pub mod ChunkLaws
-pub mod Meaning
-pub mod TextLaws

@@ -1,3 +1,0 @@
-pub mod RowMeaning
-pub mod Finding
-pub mod RowsLaws

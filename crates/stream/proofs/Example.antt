@@ -1,0 +1,142 @@
+-- 01's example: of its three lines the definition says, byte for byte, what 01 says is written.
+-- Assumes nothing.
+use mathlib.Core.Path.{_≡_, refl}
+use mathlib.Core.Bool.{Bool, true, false}
+use mathlib.Core.List.{List, [], _∷_, _++_}
+use mathlib.Core.Option.{some}
+use Prim.Native.Nat.{ℕ}
+use lib.IntN.{ℤ, pos}
+use Rattle.fixed.specs.Fixed.{down, held, modulo}
+use Rattle.sine.proofs.AtZero.{sine-at-0, cosine-at-0}
+use Rattle.regulator.specs.Regulator.{sumOf, outOf as issued, nextOf, regulated}
+use Rattle.frames.specs.Frames.{clarke, park, inversePark}
+use Rattle.field.specs.Field.{fluxNext, slip, angleNext, followed}
+use Rattle.shaft.specs.Shaft.{signed, movement, moved, counted, thirtieth, speedOf, measured, rampedTo, sizeOf, weakened}
+use Rattle.modulation.specs.Modulation.{entriesOf, bit, numberOf, rowAt, rowOf, timeOf, clippedTimes, timesOf, compareAt, placed, modulated}
+use Rattle.record.specs.declared.Drive.{Drive}
+use Rattle.record.specs.Bench.{bench}
+use Rattle.record.specs.Record.{periodOk, gainOk, gainsOk, tied, gainsTied, limitsOk, restOk, refusal, accepted, inside, shaftOk, commandOk, fieldOk, integralsOk, sound, broken}
+use Rattle.drive.specs.Step.{speedGains, currentGains, speedRegulated, currentRegulated, rampedBy, withTorque, withShaft, withSpeed, withCommand, commanded, turned, currents, fieldAfter, dRegulated, qRegulated, voltageOf, voltageFor, withField, advanced, driven, pulsed, outcome}
+use Rattle.drive.specs.Calls.{fresh, sampleOk, tripped, refused, taken, stepped}
+use Rattle.rows.specs.Rows.{rowStepped, four, isAccepted, isClipped}
+use Rattle.text.specs.Grammar.{allDigits, valueOf, digitsOf, fitting, numberOf as numberRead, cut, both, numbersOf, lineOf}
+use Rattle.text.specs.Decimal.{decimal, countText, textOf, moreText, numbersText, lineText}
+use Rattle.stream.specs.declared.Tally.{Tally}
+use Rattle.stream.specs.Program.{linesOf, restOf, any, three, rowIn, tallyStart, tallyOf, answerText, headerText, totalsText, closingText, ifRow, linesText, programText}
+
+-- `0 0 0`, `9000 0 0`, `0 0 0`
+abbrev input : List ℕ
+input =
+    48 ∷ 32 ∷ 48 ∷ 32 ∷ 48 ∷ 10
+    ∷ 57 ∷ 48 ∷ 48 ∷ 48 ∷ 32 ∷ 48 ∷ 32 ∷ 48 ∷ 10
+    ∷ 48 ∷ 32 ∷ 48 ∷ 32 ∷ 48 ∷ 10
+    ∷ []
+
+-- `a b c no`, `144 455 455 0`, `600 600 600 6`, `600 600 600 7`, `steps 1 clipped 0`
+abbrev output : List ℕ
+output =
+    97 ∷ 32 ∷ 98 ∷ 32 ∷ 99 ∷ 32 ∷ 110 ∷ 111 ∷ 10
+    ∷ 49 ∷ 52 ∷ 52 ∷ 32 ∷ 52 ∷ 53 ∷ 53 ∷ 32 ∷ 52 ∷ 53 ∷ 53 ∷ 32 ∷ 48 ∷ 10
+    ∷ 54 ∷ 48 ∷ 48 ∷ 32 ∷ 54 ∷ 48 ∷ 48 ∷ 32 ∷ 54 ∷ 48 ∷ 48 ∷ 32 ∷ 54 ∷ 10
+    ∷ 54 ∷ 48 ∷ 48 ∷ 32 ∷ 54 ∷ 48 ∷ 48 ∷ 32 ∷ 54 ∷ 48 ∷ 48 ∷ 32 ∷ 55 ∷ 10
+    ∷ 115 ∷ 116 ∷ 101 ∷ 112 ∷ 115 ∷ 32 ∷ 49 ∷ 32 ∷ 99 ∷ 108 ∷ 105 ∷ 112 ∷ 112 ∷ 101 ∷ 100 ∷ 32 ∷ 48 ∷ 10
+    ∷ []
+
+-- the drive after the first row, and tripped or not
+unfoldable once : Bool → Drive
+once trip = record {
+  settings = bench;
+  shaft = record { count = pos 0; seen = true; sum = pos 0; steps = pos 1; speed = pos 0 };
+  command = record { target = pos 0; reference = pos 0; torque = pos 0; flux = pos 2458 };
+  field = record { flux = pos 0; angle = pos 0 };
+  integrals = record { speed = pos 0; d = pos 153; q = pos 0 };
+  tripped = trip;
+}
+
+first : stepped (fresh bench) (pos 0) (pos 0) (pos 0) ≡ record {
+  drive = once false;
+  number = pos 0;
+  pulses = record { a = pos 144; b = pos 455; c = pos 455; clipped = false };
+  voltage = record { alpha = pos 2458; beta = pos 0 };
+}
+unfolding once stepped taken sampleOk advanced driven pulsed outcome withField fieldAfter followed fluxNext slip angleNext voltageFor voltageOf dRegulated qRegulated currentRegulated currentGains turned commanded withCommand withTorque withShaft withSpeed rampedBy speedRegulated speedGains regulated issued nextOf sumOf rampedTo thirtieth counted measured moved movement signed modulo down speedOf held weakened sizeOf currents clarke park inversePark modulated placed compareAt timesOf clippedTimes timeOf rowOf rowAt numberOf bit entriesOf fresh bench accepted refusal periodOk gainsOk gainOk gainsTied tied limitsOk restOk sound broken shaftOk commandOk fieldOk integralsOk inside
+first = rw (cosine-at-0, sine-at-0) refl
+
+second : stepped (once false) (pos 9000) (pos 0) (pos 0) ≡ refused (once true) (pos 6) (pos 600)
+unfolding once stepped taken tripped sampleOk bench accepted refusal periodOk gainsOk gainOk gainsTied tied limitsOk restOk sound broken shaftOk commandOk fieldOk integralsOk inside
+second = refl
+
+third : stepped (once true) (pos 0) (pos 0) (pos 0) ≡ refused (once true) (pos 7) (pos 600)
+unfolding once stepped taken bench accepted refusal periodOk gainsOk gainOk gainsTied tied limitsOk restOk sound broken shaftOk commandOk fieldOk integralsOk inside
+third = refl
+
+-- what the lines mean
+abbrev still : List ℤ
+still = pos 0 ∷ pos 0 ∷ pos 0 ∷ []
+
+abbrev wild : List ℤ
+wild = pos 9000 ∷ pos 0 ∷ pos 0 ∷ []
+
+abbrev zeros : List ℕ
+zeros = 48 ∷ 32 ∷ 48 ∷ 32 ∷ 48 ∷ []
+
+abbrev nines : List ℕ
+nines = 57 ∷ 48 ∷ 48 ∷ 48 ∷ 32 ∷ 48 ∷ 32 ∷ 48 ∷ []
+
+still-read : rowIn zeros ≡ some still
+unfolding rowIn three lineOf numbersOf numberRead both cut fitting digitsOf allDigits valueOf
+still-read = refl
+
+wild-read : rowIn nines ≡ some wild
+unfolding rowIn three lineOf numbersOf numberRead both cut fitting digitsOf allDigits valueOf
+wild-read = refl
+
+-- the rows so far: none, one, two and three
+abbrev rowsAt : Bool → ℕ → Tally
+rowsAt trip n = record { drive = once trip; rows = n; accepted = 1; clipped = 0 }
+
+after-first : tallyOf (tallyStart (fresh bench)) still ≡ rowsAt false 1
+unfolding tallyOf rowStepped isAccepted isClipped
+after-first = rw first refl
+
+after-second : tallyOf (rowsAt false 1) wild ≡ rowsAt true 2
+unfolding tallyOf rowStepped isAccepted isClipped refused
+after-second = rw second refl
+
+after-third : tallyOf (rowsAt true 2) still ≡ rowsAt true 3
+unfolding tallyOf rowStepped isAccepted isClipped refused
+after-third = rw third refl
+
+first-text : answerText (tallyStart (fresh bench)) still ≡ 49 ∷ 52 ∷ 52 ∷ 32 ∷ 52 ∷ 53 ∷ 53 ∷ 32 ∷ 52 ∷ 53 ∷ 53 ∷ 32 ∷ 48 ∷ 10 ∷ []
+unfolding answerText rowStepped four lineText numbersText moreText textOf countText decimal
+first-text = rw first refl
+
+second-text : answerText (rowsAt false 1) wild ≡ 54 ∷ 48 ∷ 48 ∷ 32 ∷ 54 ∷ 48 ∷ 48 ∷ 32 ∷ 54 ∷ 48 ∷ 48 ∷ 32 ∷ 54 ∷ 10 ∷ []
+unfolding answerText rowStepped four refused lineText numbersText moreText textOf countText decimal
+second-text = rw second refl
+
+third-text : answerText (rowsAt true 2) still ≡ 54 ∷ 48 ∷ 48 ∷ 32 ∷ 54 ∷ 48 ∷ 48 ∷ 32 ∷ 54 ∷ 48 ∷ 48 ∷ 32 ∷ 55 ∷ 10 ∷ []
+unfolding answerText rowStepped four refused lineText numbersText moreText textOf countText decimal
+third-text = rw third refl
+
+-- a line that is a row, and then the others
+row-line : (t u : Tally) (w : List ℕ) (ws : List (List ℕ)) (row : List ℤ) (text : List ℕ) → rowIn w ≡ some row → answerText t row ≡ text → tallyOf t row ≡ u →
+    linesText t (w ∷ ws) [] ≡ text ++ linesText u ws []
+unfolding linesText ifRow
+row-line t u w ws row text r a n = rw (r, a, n) refl
+
+cut-lines : (linesOf [] input ≡ zeros ∷ nines ∷ zeros ∷ []) × (restOf [] input ≡ [])
+unfolding linesOf restOf
+cut-lines = (refl, refl)
+
+ends : linesText (rowsAt true 3) [] [] ≡ 115 ∷ 116 ∷ 101 ∷ 112 ∷ 115 ∷ 32 ∷ 49 ∷ 32 ∷ 99 ∷ 108 ∷ 105 ∷ 112 ∷ 112 ∷ 101 ∷ 100 ∷ 32 ∷ 48 ∷ 10 ∷ []
+unfolding linesText any closingText totalsText countText decimal
+ends = refl
+
+pub example : programText (fresh bench) input ≡ output
+unfolding programText headerText
+example =
+    let c = row-line (rowsAt true 2) (rowsAt true 3) zeros [] still _ still-read third-text after-third in
+    let b = row-line (rowsAt false 1) (rowsAt true 2) nines (zeros ∷ []) wild _ wild-read second-text after-second in
+    let a = row-line (tallyStart (fresh bench)) (rowsAt false 1) zeros (nines ∷ zeros ∷ []) still _ still-read first-text after-first in
+    rw (cut-lines .0, cut-lines .1, a, b, c, ends) refl

@@ -1,0 +1,181 @@
+// The program without its reads and writes: bytes go in as they come, in chunks of any size, and what they are answered comes out.
+ghost use mathlib.Core.Path.{_≡_};
+ghost use mathlib.Core.Bool.{true, cond};
+ghost use Prim.Native.Nat.{_+_, _*_, _≤_};
+ghost use lib.ListN.{length};
+ghost use Rattle.sine.specs.Sine.{sineTable};
+ghost use Rattle.text.specs.Decimal.{written};
+ghost use Rattle.record.specs.Record.{sound as soundOf};
+ghost use Rattle.stream.specs.Program.{after, headerText, tallyOf, answerText, totalsText, closingText};
+ghost use Rattle.stream.specs.Feeding.{isRow, streamStart, fedOf, textOf};
+use record::Drive;
+use text::Line;
+
+// What goes from one row to the next: the drive, how many rows came, the accepted steps and the clipped ones among them.
+pub struct Tally {
+    pub drive: Drive,
+    pub rows: u64,
+    pub accepted: u64,
+    pub clipped: u64,
+}
+
+// Where the program stands between two bytes: the rows so far; the line at hand, its numbers, and whether a byte of it came; whether
+// a line came that is no row, after which nothing is looked at.
+pub struct Stream {
+    pub tally: Tally,
+    pub line: Line,
+    pub row: [i32; 3],
+    pub begun: bool,
+    pub stopped: bool,
+}
+
+// A row's answer is written: the rows with it, and the place behind it.
+pub struct Told {
+    pub tally: Tally,
+    pub place: usize,
+}
+
+// A chunk is fed: the stream after it, and the place behind what was written.
+pub struct Passed {
+    pub stream: Stream,
+    pub place: usize,
+}
+
+// Held at the end, which no input reaches, so that it does not wrap.
+fn next(number: u64) -> u64
+    ensures { λ r. ⌜ r ≡ after number ⌝ }
+{
+    if number < u64::MAX {
+        number + 1
+    } else {
+        number
+    }
+}
+
+fn next_if(more: bool, number: u64) -> u64
+    ensures { λ r. ⌜ r ≡ cond more (after number) number ⌝ }
+{
+    if more { next(number) } else { number }
+}
+
+// A row is a line of exactly three numbers.
+fn is_row(l: Line) -> bool
+    ensures { λ r. ⌜ r ≡ isRow l ⌝ }
+{
+    !l.bad & (l.count == 3)
+}
+
+// A row is one step, and its answer is a line.
+fn row_told(t: Tally, row: [i32; 3], table: &sine::Table, out: &mut [u8], at: usize) -> Told
+    requires { ⌜ (soundOf (t .drive) ≡ true) × (now table ≡ sineTable) × (at + 48 ≤ length (now out)) ⌝ }
+    ensures { λ r. ⌜ (r .tally ≡ tallyOf t row) × (r .place ≡ at + length (answerText t row)) × (now (out .exit) ≡ written (now (out .entry)) at (answerText t row)) × (r .place ≤ at + 48) ⌝ }
+{
+    let s = drive::take(t.drive, row[0], row[1], row[2], table);
+    let answer = [s.pulses.a, s.pulses.b, s.pulses.c, s.number];
+    let place = text::put_line(&answer, 4, out, at);
+    let accepted = fixed::within(0, 0, s.number);
+    let drive = s.drive;
+    Told {
+        tally: Tally {
+            drive: drive,
+            rows: next(t.rows),
+            accepted: next_if(accepted, t.accepted),
+            clipped: next_if(accepted & s.pulses.clipped, t.clipped),
+        },
+        place: place,
+    }
+}
+
+// What is written first; answers the place after it.
+pub fn put_header(out: &mut [u8], at: usize) -> usize
+    requires { ⌜ at + 9 ≤ length (now out) ⌝ }
+    ensures { λ r. ⌜ (r ≡ at + length headerText) × (now (out .exit) ≡ written (now (out .entry)) at headerText) × (r ≤ at + 9) ⌝ }
+{
+    text::put_text(b"a b c no\n", out, at)
+}
+
+// Nothing is read yet.
+pub fn start(d: Drive) -> Stream
+    ensures { λ s. ⌜ s ≡ streamStart d ⌝ }
+{
+    Stream {
+        tally: Tally {
+            drive: d,
+            rows: 0,
+            accepted: 0,
+            clipped: 0,
+        },
+        line: text::line_start(),
+        row: [0, 0, 0],
+        begun: false,
+        stopped: false,
+    }
+}
+
+// The bytes of a chunk, whole lines or not, one by one.
+pub fn fed(s: Stream, chunk: &[u8], table: &sine::Table, out: &mut [u8], at: usize) -> Passed
+    requires { ⌜ (soundOf (s .tally .drive) ≡ true) × (now table ≡ sineTable) × (at + 48 * length (now chunk) ≤ length (now out)) ⌝ }
+    ensures { λ r. ⌜ (r .stream ≡ fedOf s (now (chunk .entry))) × (r .place ≡ at + length (textOf s (now (chunk .entry)))) × (now (out .exit) ≡ written (now (out .entry)) at (textOf s (now (chunk .entry)))) × (r .place ≤ at + 48 * length (now (chunk .entry))) ⌝ }
+    ensures { λ r. ⌜ soundOf (r .stream .tally .drive) ≡ true ⌝ }
+{
+    let mut tally = s.tally;
+    let mut line = s.line;
+    let mut row = s.row;
+    let mut begun = s.begun;
+    let mut stopped = s.stopped;
+    let mut place = at;
+    let mut i = 0;
+    while i < chunk.len() && !stopped {
+        let b = chunk[i];
+        i += 1;
+        if b == b'\n' {
+            line = text::line_end(line, &mut row);
+            if is_row(line) {
+                let t = row_told(tally, row, table, out, place);
+                tally = t.tally;
+                place = t.place;
+                line = text::line_start();
+                begun = false;
+            } else {
+                begun = true;
+                stopped = true;
+            }
+        } else {
+            line = text::line_next(line, b, &mut row);
+            begun = true;
+        }
+    }
+    Passed {
+        stream: Stream {
+            tally: tally,
+            line: line,
+            row: row,
+            begun: begun,
+            stopped: stopped,
+        },
+        place: place,
+    }
+}
+
+fn put_totals(accepted: u64, clipped: u64, out: &mut [u8], at: usize) -> usize
+    requires { ⌜ at + 56 ≤ length (now out) ⌝ }
+    ensures { λ r. ⌜ (r ≡ at + length (totalsText accepted clipped)) × (now (out .exit) ≡ written (now (out .entry)) at (totalsText accepted clipped)) × (r ≤ at + 56) ⌝ }
+{
+    let a = text::put_text(b"steps ", out, at);
+    let b = text::put_count(accepted, out, a);
+    let c = text::put_text(b" clipped ", out, b);
+    let d = text::put_count(clipped, out, c);
+    text::put_byte(b'\n', out, d)
+}
+
+// What is written last: that a line is bad, where one is no row or has no line feed, and the totals so far.
+pub fn ended(s: Stream, out: &mut [u8], at: usize) -> usize
+    requires { ⌜ at + 81 ≤ length (now out) ⌝ }
+    ensures { λ r. ⌜ (r ≡ at + length (closingText (s .begun) (s .tally))) × (now (out .exit) ≡ written (now (out .entry)) at (closingText (s .begun) (s .tally))) × (r ≤ at + 81) ⌝ }
+{
+    if s.begun {
+        let place = text::put_bad(next(s.tally.rows), out, at);
+        return put_totals(s.tally.accepted, s.tally.clipped, out, place);
+    }
+    put_totals(s.tally.accepted, s.tally.clipped, out, at)
+}
