@@ -17,7 +17,7 @@ use Rattle.feeding.specs.Lines.{fitting, goodIn}
 use Rattle.feeding.specs.Feeding.{front, isGood}
 
 -- there is room among n numbers for all that fit
-pub Room : (List ℤ → Bool) → ℕ → Type 0
+abbrev pub Room : (List ℤ → Bool) → ℕ → Type 0
 Room fits n = (zs : List ℤ) → fits zs ≡ true → length zs ≤ n
 
 module _ (fits : List ℤ → Bool) where
@@ -34,7 +34,7 @@ module _ (fits : List ℤ → Bool) where
   told-taken ns zs r t = rw (t .good, first-numbers t) refl
 
   told-long : (zs : List ℤ) (n : ℕ) → Room fits n → n < length zs → fitting fits (some zs) ≡ none
-  unfolding fitting Room
+  unfolding fitting
   told-long zs n room h = ⊎-elim (λ e. absurd (omega (arith, room zs e, h))) (λ e. rw e refl) (true-or-false (fits zs))
 
   pub line-told : (bs : List ℕ) (ns : List ℤ) → Room fits (length ns) → told (lineRead ns bs) ≡ goodIn fits bs

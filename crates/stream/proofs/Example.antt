@@ -19,10 +19,11 @@ use Rattle.record.specs.Record.{periodOk, gainOk, gainsOk, tied, gainsTied, lim
 use Rattle.drive.specs.Step.{speedGains, currentGains, speedRegulated, currentRegulated, rampedBy, withTorque, withShaft, withSpeed, withCommand, commanded, turned, currents, fieldAfter, dRegulated, qRegulated, voltageOf, voltageFor, withField, advanced, driven, pulsed, outcome}
 use Rattle.drive.specs.Calls.{fresh, sampleOk, tripped, refused, taken, stepped}
 use Rattle.rows.specs.Rows.{rowStepped, four, isAccepted, isClipped}
-use Rattle.text.specs.Grammar.{allDigits, valueOf, digitsOf, fitting, numberOf as numberRead, cut, both, numbersOf, lineOf}
+use Rattle.text.specs.Grammar.{allDigits, valueOf, digitsOf, fitting as fittingNumber, numberOf as numberRead, cut, both, numbersOf, lineOf}
 use Rattle.text.specs.Decimal.{decimal, countText, textOf, moreText, numbersText, lineText}
+use Rattle.feeding.specs.Lines.{linesOf, restOf, any, fitting, goodIn, goodThen, goodOf, badOr, badOf, goodLines, endsBad, afterAll, answersTo}
 use Rattle.stream.specs.declared.Tally.{Tally}
-use Rattle.stream.specs.Program.{linesOf, restOf, any, three, rowIn, tallyStart, tallyOf, answerText, headerText, totalsText, closingText, ifRow, linesText, programText}
+use Rattle.stream.specs.Program.{isRow, tallyStart, tallyOf, answerText, headerText, totalsText, closingText, programText}
 
 -- `0 0 0`, `9000 0 0`, `0 0 0`
 abbrev input : List ℕ
@@ -83,13 +84,22 @@ zeros = 48 ∷ 32 ∷ 48 ∷ 32 ∷ 48 ∷ []
 abbrev nines : List ℕ
 nines = 57 ∷ 48 ∷ 48 ∷ 48 ∷ 32 ∷ 48 ∷ 32 ∷ 48 ∷ []
 
-still-read : rowIn zeros ≡ some still
-unfolding rowIn three lineOf numbersOf numberRead both cut fitting digitsOf allDigits valueOf
+-- where it is cut, and what the lines mean
+cut-lines : (linesOf [] input ≡ zeros ∷ nines ∷ zeros ∷ []) × (restOf [] input ≡ [])
+unfolding linesOf restOf
+cut-lines = (refl, refl)
+
+still-read : goodIn isRow zeros ≡ some still
+unfolding goodIn fitting isRow lineOf numbersOf numberRead both cut fittingNumber digitsOf allDigits valueOf
 still-read = refl
 
-wild-read : rowIn nines ≡ some wild
-unfolding rowIn three lineOf numbersOf numberRead both cut fitting digitsOf allDigits valueOf
+wild-read : goodIn isRow nines ≡ some wild
+unfolding goodIn fitting isRow lineOf numbersOf numberRead both cut fittingNumber digitsOf allDigits valueOf
 wild-read = refl
+
+rows-read : (goodLines isRow input ≡ still ∷ wild ∷ still ∷ []) × (endsBad isRow input ≡ false)
+unfolding goodOf goodThen badOf badOr any
+rows-read = (rw (cut-lines .0, still-read, wild-read) refl, rw (cut-lines .0, cut-lines .1, still-read, wild-read) refl)
 
 -- the rows so far: none, one, two and three
 abbrev rowsAt : Bool → ℕ → Tally
@@ -119,24 +129,23 @@ third-text : answerText (rowsAt true 2) still ≡ 54 ∷ 48 ∷ 48 ∷ 32 ∷ 54
 unfolding answerText rowStepped four refused lineText numbersText moreText textOf countText decimal
 third-text = rw third refl
 
--- a line that is a row, and then the others
-row-line : (t u : Tally) (w : List ℕ) (ws : List (List ℕ)) (row : List ℤ) (text : List ℕ) → rowIn w ≡ some row → answerText t row ≡ text → tallyOf t row ≡ u →
-    linesText t (w ∷ ws) [] ≡ text ++ linesText u ws []
-unfolding linesText ifRow
-row-line t u w ws row text r a n = rw (r, a, n) refl
+-- row by row
+all-after : afterAll tallyOf (tallyStart (fresh bench)) (still ∷ wild ∷ still ∷ []) ≡ rowsAt true 3
+unfolding afterAll
+all-after = rw (after-first, after-second, after-third) refl
 
-cut-lines : (linesOf [] input ≡ zeros ∷ nines ∷ zeros ∷ []) × (restOf [] input ≡ [])
-unfolding linesOf restOf
-cut-lines = (refl, refl)
+answers : answersTo tallyOf answerText (tallyStart (fresh bench)) (still ∷ wild ∷ still ∷ []) ≡
+    49 ∷ 52 ∷ 52 ∷ 32 ∷ 52 ∷ 53 ∷ 53 ∷ 32 ∷ 52 ∷ 53 ∷ 53 ∷ 32 ∷ 48 ∷ 10
+    ∷ 54 ∷ 48 ∷ 48 ∷ 32 ∷ 54 ∷ 48 ∷ 48 ∷ 32 ∷ 54 ∷ 48 ∷ 48 ∷ 32 ∷ 54 ∷ 10
+    ∷ 54 ∷ 48 ∷ 48 ∷ 32 ∷ 54 ∷ 48 ∷ 48 ∷ 32 ∷ 54 ∷ 48 ∷ 48 ∷ 32 ∷ 55 ∷ 10
+    ∷ []
+unfolding answersTo
+answers = rw (first-text, after-first, second-text, after-second, third-text) refl
 
-ends : linesText (rowsAt true 3) [] [] ≡ 115 ∷ 116 ∷ 101 ∷ 112 ∷ 115 ∷ 32 ∷ 49 ∷ 32 ∷ 99 ∷ 108 ∷ 105 ∷ 112 ∷ 112 ∷ 101 ∷ 100 ∷ 32 ∷ 48 ∷ 10 ∷ []
-unfolding linesText any closingText totalsText countText decimal
-ends = refl
+closing : closingText false (rowsAt true 3) ≡ 115 ∷ 116 ∷ 101 ∷ 112 ∷ 115 ∷ 32 ∷ 49 ∷ 32 ∷ 99 ∷ 108 ∷ 105 ∷ 112 ∷ 112 ∷ 101 ∷ 100 ∷ 32 ∷ 48 ∷ 10 ∷ []
+unfolding closingText totalsText countText decimal
+closing = refl
 
 pub example : programText (fresh bench) input ≡ output
 unfolding programText headerText
-example =
-    let c = row-line (rowsAt true 2) (rowsAt true 3) zeros [] still _ still-read third-text after-third in
-    let b = row-line (rowsAt false 1) (rowsAt true 2) nines (zeros ∷ []) wild _ wild-read second-text after-second in
-    let a = row-line (tallyStart (fresh bench)) (rowsAt false 1) zeros (nines ∷ zeros ∷ []) still _ still-read first-text after-first in
-    rw (cut-lines .0, cut-lines .1, a, b, c, ends) refl
+example = rw (rows-read .0, rows-read .1, answers, all-after, closing) refl

@@ -1,6 +1,4 @@
-pub mod RowMeaning
-pub mod Pieces
 pub mod Whole
-pub mod FeedingLaws
-pub mod Example
+pub mod Feeding
 pub mod OneRun
+pub mod Example

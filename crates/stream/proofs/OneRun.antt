@@ -1,49 +1,73 @@
--- What the program writes of its rows is what one run of them all writes (`one-run`), with the run's own counts where the input is shorter than
--- 2^64 − 1 bytes (`exact`).
+-- What the program writes of its rows is what one run of them all writes, and its counts are the run's (`one-run`); of an input of fewer than
+-- 2^64 − 1 bytes none of them is held (`counts-exact`).
 -- Assumes nothing.
 use mathlib.Core.Path.{_≡_, refl, sym, _∙_, ap, ap₂}
 use mathlib.Core.Bool.{Bool, true, false, cond, true≢false}
-use mathlib.Core.List.{List, [], _∷_, _++_, append-assoc}
+use mathlib.Core.List.{List, [], _∷_, _++_, append-assoc, append-nil}
 use mathlib.Core.Option.{Option, none, some}
-use Prim.Native.Nat.{ℕ, zero, suc, _+_, _*_, _≤_, _<_}
+use Prim.Native.Nat.{ℕ, zero, suc, _+_, _*_, _/_, _%_, _≤_, _<_}
+use native.Mathlib.Nat.{zero-add}
 use native.Mathlib.Omega.{arith}
-use borrow.Author.Tests.{eqb-true}
+use borrow.Author.Tests.{eqb-true, eq-eqb, le-leb}
 use lib.Dec.{eqb}
 use lib.IntN.{ℤ, pos}
-use lib.ListN.{length, length-append}
+use lib.ListN.{length, drop, length-append, drop-of-length-le}
 use Rattle.record.specs.declared.Drive.{Drive}
+use Rattle.record.specs.Record.{broken}
 use Rattle.drive.specs.declared.Stepped.{Stepped}
 use Rattle.rows.specs.declared.Ran.{Ran}
-use Rattle.rows.specs.Rows.{rowStepped, four, one, isAccepted, isClipped, none as noRows, afterRow, ranOf, writtenOf, rowsIn}
+use Rattle.rows.specs.Rows.{rowStepped, four, one, isAccepted, isClipped, none as noRows, afterRow, ranOf, writtenOf, rowsIn, rowsFit, runOf, outOf}
+use Rattle.fixed.proofs.HeldLaws.{and-both}
 use Rattle.rows.proofs.Runs.{one-most}
-use Rattle.rows.proofs.Pieces.{joined, both-rows, ran-in-pieces, written-in-pieces}
+use Rattle.rows.proofs.Outcomes.{run-0}
+use Rattle.rows.proofs.Pieces.{joined as joinedRuns, ran-in-pieces, written-in-pieces}
 use Rattle.text.specs.Grammar.{lineOf}
 use Rattle.text.specs.Decimal.{lineText}
+use Rattle.feeding.specs.Lines.{linesOf, fitting, goodIn, goodThen, goodOf, goodLines, endsBad, afterAll, answersTo, oneMore}
+use Rattle.feeding.specs.Feeding.{joined}
 use Rattle.stream.specs.declared.Tally.{Tally}
-use Rattle.stream.specs.Program.{after, any, three, rowIn, tallyStart, stepOf, tallyOf, answerText, headerText, closingText, ifRow, linesOf, restOf, linesText, programText}
-use Rattle.stream.specs.OneRun.{rowThen, samplesOf, badOr, endsBad, foursText, plus, withRun, runText, exactText}
+use Rattle.stream.specs.Program.{isRow, tallyStart, stepOf, tallyOf, answerText, headerText, closingText, programText, foursText, held, ranTally, runText}
 
--- a row has three numbers
-three-long : (o : Option (List ℤ)) (row : List ℤ) → three o ≡ some row → length row ≡ 3
-unfolding three
-three-long none row e = absurd (let z : _≡_ {A = Bool} true false = cc in true≢false z)
-three-long (some zs) row e = by (eqb (length zs) 3) refl e
+-- ════ rows of three numbers each
+pub data Threes : List (List ℤ) → Type 0 where
+  nil : Threes []
+  cons : {row : List ℤ} {rows : List (List ℤ)} → length row ≡ 3 → Threes rows → Threes (row ∷ rows)
+
+then-threes : (o : Option (List ℤ)) (rows : List (List ℤ)) → Threes rows → Threes (goodThen (fitting isRow o) rows)
+unfolding goodThen fitting isRow
+then-threes none rows h = nil
+then-threes (some zs) rows h = by (eqb (length zs) 3) refl
   where
-    by : (b : Bool) → eqb (length zs) 3 ≡ b → cond b (some zs) none ≡ some row → length row ≡ 3
-    by true h f = let g : zs ≡ row = cc in rw g at (eqb-true (length zs) 3 h)
-    by false h f = absurd (let z : _≡_ {A = Bool} true false = cc in true≢false z)
+    by : (b : Bool) → eqb (length zs) 3 ≡ b → Threes (goodThen (cond b (some zs) none) rows)
+    by true e = cons (eqb-true (length zs) 3 e) h
+    by false e = nil
 
-row-long : (w : List ℕ) (row : List ℤ) → rowIn w ≡ some row → length row ≡ 3
-unfolding rowIn
-row-long w row e = three-long (lineOf w) row e
+good-threes : (ws : List (List ℕ)) → Threes (goodOf isRow ws)
+unfolding goodOf goodIn
+good-threes [] = nil
+good-threes (w ∷ ws) = then-threes (lineOf w) (goodOf isRow ws) (good-threes ws)
+
+threes-long : {rows : List (List ℤ)} → Threes rows → length (joined rows) ≡ 3 * length rows
+unfolding joined
+threes-long nil = refl
+threes-long (cons {row} {rows} l h) = length-append row (joined rows) ∙ omega (arith, l, threes-long h)
+
+-- ════ a run behind others
+-- a count and more, held
+abbrev plus : ℕ → ℕ → ℕ
+plus n more = held (n + more)
+
+abbrev withRun : Tally → Ran → ℕ → Tally
+withRun t r n =
+    record { drive = r .drive; rows = plus (t .rows) n; accepted = plus (t .accepted) (r .accepted); clipped = plus (t .clipped) (r .clipped) }
 
 -- counts that are held
-pub record Held (t : Tally) : Type 0 where
-  pub rows : t .rows ≤ 18446744073709551615
-  pub accepted : t .accepted ≤ 18446744073709551615
-  pub clipped : t .clipped ≤ 18446744073709551615
+record Held (t : Tally) : Type 0 where
+  rows : t .rows ≤ 18446744073709551615
+  accepted : t .accepted ≤ 18446744073709551615
+  clipped : t .clipped ≤ 18446744073709551615
 
-held-if : (b : Bool) (n : ℕ) → n ≤ 18446744073709551615 → cond b (after n) n ≤ 18446744073709551615
+held-if : (b : Bool) (n : ℕ) → n ≤ 18446744073709551615 → cond b (oneMore n) n ≤ 18446744073709551615
 held-if true n h = omega arith
 held-if false n h = h
 
@@ -51,73 +75,99 @@ held-more : (t : Tally) (row : List ℤ) → Held t → Held (tallyOf t row)
 unfolding tallyOf
 held-more t row h = record { rows = omega arith; accepted = held-if (isAccepted (stepOf t row)) (t .accepted) (h .accepted); clipped = held-if (isClipped (stepOf t row)) (t .clipped) (h .clipped) }
 
--- ════ no rows, and a row in front of others
-run-none : (t : Tally) (bad : Bool) → Held t → closingText bad t ≡ runText t [] bad
-unfolding ranOf writtenOf noRows foursText
-run-none t bad h =
+-- no row
+with-none : (t : Tally) → Held t → t ≡ withRun t (noRows (t .drive) (pos 0)) 0
+unfolding noRows
+with-none t h =
     let a : plus (t .rows) 0 ≡ t .rows = omega (arith, h .rows) in
     let b : plus (t .accepted) 0 ≡ t .accepted = omega (arith, h .accepted) in
     let c : plus (t .clipped) 0 ≡ t .clipped = omega (arith, h .clipped) in
     rw (a, b, c) refl
 
-plus-if : (b : Bool) (n m : ℕ) → plus n (0 + one b + m) ≡ plus (cond b (after n) n) m
+-- a row in front of others
+plus-if : (b : Bool) (n m : ℕ) → plus n (0 + one b + m) ≡ plus (cond b (oneMore n) n) m
 plus-if true n m = omega arith
 plus-if false n m = omega arith
 
--- one row of the run
-one-ran : (d : Drive) (row : List ℤ) → ranOf d row 1 ≡ afterRow (noRows d (pos 0)) (rowStepped d row 0)
-unfolding ranOf noRows
-one-ran d row = refl
+with-more : (t : Tally) (row : List ℤ) (r : Ran) (m : ℕ) → withRun t (joinedRuns (afterRow (noRows (t .drive) (pos 0)) (stepOf t row)) r) (1 + m) ≡ withRun (tallyOf t row) r m
+unfolding tallyOf afterRow noRows
+with-more t row r m =
+    let a : plus (t .rows) (1 + m) ≡ plus (oneMore (t .rows)) m = omega arith in
+    rw (a, plus-if (isAccepted (stepOf t row)) (t .accepted) (r .accepted), plus-if (isClipped (stepOf t row)) (t .clipped) (r .clipped)) refl
 
-one-written : (d : Drive) (row : List ℤ) → writtenOf d row 1 ≡ four (rowStepped d row 0)
-unfolding writtenOf ranOf noRows
-one-written d row = refl
+one-ran : (t : Tally) (row : List ℤ) → (ranOf (t .drive) row 1 ≡ afterRow (noRows (t .drive) (pos 0)) (stepOf t row)) × (ranOf (t .drive) row 1 .drive ≡ tallyOf t row .drive) × (writtenOf (t .drive) row 1 ≡ four (stepOf t row))
+unfolding ranOf writtenOf noRows afterRow tallyOf
+one-ran t row = (refl, refl, refl)
 
 fours-more : (s : Stepped) (l : List ℤ) → foursText (four s ++ l) ≡ lineText (four s) ++ foursText l
 unfolding foursText four
 fours-more s l = refl
 
-with-more : (t : Tally) (row : List ℤ) (r : Ran) (m : ℕ) → withRun t (joined (afterRow (noRows (t .drive) (pos 0)) (stepOf t row)) r) (1 + m) ≡ withRun (tallyOf t row) r m
-unfolding tallyOf afterRow noRows
-with-more t row r m =
-    let a : plus (t .rows) (1 + m) ≡ plus (after (t .rows)) m = omega arith in
-    rw (a, plus-if (isAccepted (stepOf t row)) (t .accepted) (r .accepted), plus-if (isClipped (stepOf t row)) (t .clipped) (r .clipped)) refl
+-- ════ all the rows
+module _ (t : Tally) (row : List ℤ) (rows : List (List ℤ)) (l : length row ≡ 3) where
+  ran-more : ranOf (t .drive) (row ++ joined rows) (1 + length rows) ≡ joinedRuns (afterRow (noRows (t .drive) (pos 0)) (stepOf t row)) (ranOf (tallyOf t row .drive) (joined rows) (length rows))
+  ran-more =
+      ran-in-pieces row (joined rows) 1 l (t .drive) (length rows) ∙ ap₂ (λ (x : Ran) (y : Drive). joinedRuns x (ranOf y (joined rows) (length rows))) (one-ran t row .0) (one-ran t row .1)
 
-step-drive : (t : Tally) (row : List ℤ) → ranOf (t .drive) row 1 .drive ≡ tallyOf t row .drive
-unfolding ranOf noRows afterRow tallyOf
-step-drive t row = refl
+  written-more : writtenOf (t .drive) (row ++ joined rows) (1 + length rows) ≡ four (stepOf t row) ++ writtenOf (tallyOf t row .drive) (joined rows) (length rows)
+  written-more =
+      written-in-pieces row (joined rows) 1 l (t .drive) (length rows) ∙ ap₂ (λ (x : List ℤ) (y : Drive). x ++ writtenOf y (joined rows) (length rows)) (one-ran t row .2) (one-ran t row .1)
 
-run-more : (t : Tally) (row samples : List ℤ) (bad : Bool) → length row ≡ 3 → runText t (row ++ samples) bad ≡ answerText t row ++ runText (tallyOf t row) samples bad
-unfolding answerText
-run-more t row samples bad l =
-    let d = t .drive in
-    let n = tallyOf t row .drive in
-    let m = rowsIn samples in
-    let k : rowsIn row ≡ 1 = rw l refl in
-    let e : rowsIn (row ++ samples) ≡ 1 + m = both-rows row samples (omega arith) ∙ rw k refl in
-    let w : writtenOf d (row ++ samples) (1 + m) ≡ four (stepOf t row) ++ writtenOf n samples m =
-    written-in-pieces row samples 1 l d m ∙ ap₂ (λ (x : List ℤ) (y : Drive). x ++ writtenOf y samples m) (one-written d row) (step-drive t row) in
-    let r : ranOf d (row ++ samples) (1 + m) ≡ joined (afterRow (noRows d (pos 0)) (stepOf t row)) (ranOf n samples m) =
-    ran-in-pieces row samples 1 l d m ∙ ap₂ (λ (x : Ran) (y : Drive). joined x (ranOf y samples m)) (one-ran d row) (step-drive t row) in
-    ap (λ (j : ℕ). foursText (writtenOf d (row ++ samples) j) ++ closingText bad (withRun t (ranOf d (row ++ samples) j) j)) e
-    ∙ ap₂ (λ (x : List ℕ) (y : Tally). x ++ closingText bad y) (ap foursText w ∙ fours-more (stepOf t row) (writtenOf n samples m)) (ap (λ (q : Ran). withRun t q (1 + m)) r ∙ with-more t row (ranOf n samples m) m)
-    ∙ append-assoc (lineText (four (stepOf t row))) (foursText (writtenOf n samples m)) (closingText bad (withRun (tallyOf t row) (ranOf n samples m) m))
+first : (n : ℕ) → suc n ≡ 1 + n
+first n = omega arith
 
--- ════ the program
-lines-run : (t : Tally) (ws : List (List ℕ)) (rest : List ℕ) → Held t → linesText t ws rest ≡ runText t (samplesOf ws) (endsBad ws rest)
-unfolding linesText samplesOf endsBad ifRow rowThen badOr
-lines-run t [] rest h = run-none t (any rest) h
-lines-run t (w ∷ ws) rest h = by (rowIn w) refl (λ (row : List ℤ). lines-run (tallyOf t row) ws rest (held-more t row h))
-  where
-    by : (o : Option (List ℤ)) → rowIn w ≡ o → ((row : List ℤ) → linesText (tallyOf t row) ws rest ≡ runText (tallyOf t row) (samplesOf ws) (endsBad ws rest)) →
-        ifRow o (closingText true t) (λ (row : List ℤ). answerText t row ++ linesText (tallyOf t row) ws rest) ≡ runText t (rowThen o (samplesOf ws)) (badOr o (endsBad ws rest))
-    by none e k = run-none t true h
-    by (some row) e k = ap (λ (l : List ℕ). answerText t row ++ l) (k row) ∙ sym (run-more t row (samplesOf ws) (endsBad ws rest) (row-long w row e))
+ran-none : (d : Drive) → ranOf d [] 0 ≡ noRows d (pos 0)
+unfolding ranOf
+ran-none d = refl
 
-pub one-run : (d : Drive) (input : List ℕ) → programText d input ≡ headerText ++ runText (tallyStart d) (samplesOf (linesOf [] input)) (endsBad (linesOf [] input) (restOf [] input))
+rows-run : (t : Tally) {rows : List (List ℤ)} → Threes rows → Held t → afterAll tallyOf t rows ≡ withRun t (ranOf (t .drive) (joined rows) (length rows)) (length rows)
+unfolding afterAll joined
+rows-run t nil h = rw (ran-none (t .drive)) (with-none t h)
+rows-run t (cons {row} {rows} l k) h =
+    let n = length rows in
+    rows-run (tallyOf t row) k (held-more t row h)
+    ∙ sym (ap (λ (j : ℕ). withRun t (ranOf (t .drive) (row ++ joined rows) j) j) (first n) ∙ ap (λ (q : Ran). withRun t q (1 + n)) (ran-more t row rows l) ∙ with-more t row (ranOf (tallyOf t row .drive) (joined rows) n) n)
+
+written-0 : (d : Drive) → foursText (writtenOf d [] 0) ≡ []
+unfolding writtenOf foursText
+written-0 d = refl
+
+rows-written : (t : Tally) {rows : List (List ℤ)} → Threes rows → answersTo tallyOf answerText t rows ≡ foursText (writtenOf (t .drive) (joined rows) (length rows))
+unfolding answersTo joined answerText
+rows-written t nil = sym (written-0 (t .drive))
+rows-written t (cons {row} {rows} l k) =
+    let n = length rows in
+    let w = writtenOf (tallyOf t row .drive) (joined rows) n in
+    ap (λ (x : List ℕ). lineText (four (stepOf t row)) ++ x) (rows-written (tallyOf t row) k)
+    ∙ sym (ap (λ (j : ℕ). foursText (writtenOf (t .drive) (row ++ joined rows) j)) (first n) ∙ ap foursText (written-more t row rows l) ∙ fours-more (stepOf t row) w)
+
+-- ════ the run
+-- rows that fit are run
+rows-fit : (samples out n : ℕ) → samples ≡ 3 * n → out ≡ 4 * n → rowsFit samples out ≡ true
+unfolding rowsFit
+rows-fit samples out n s o = and-both (eq-eqb (samples % 3) 0 (omega (arith, s))) (le-leb (4 * (samples / 3)) out (omega (arith, s, o)))
+
+-- behind no others
+with-first : (d : Drive) (r : Ran) (n : ℕ) → withRun (tallyStart d) r n ≡ ranTally r n
+with-first d r n = rw (zero-add n, zero-add (r .accepted), zero-add (r .clipped)) refl
+
+-- one run of all the rows, with as much output as it writes
+pub one-run : (d : Drive) (input : List ℕ) (out : List ℤ) → broken d ≡ false → length out ≡ 4 * length (goodLines isRow input) →
+    programText d input ≡ headerText ++ runText d (joined (goodLines isRow input)) out (endsBad isRow input)
 unfolding programText
-one-run d input =
-    ap (λ (l : List ℕ). headerText ++ l) (lines-run (tallyStart d) (linesOf [] input) (restOf [] input) (record { rows = omega arith; accepted = omega arith; clipped = omega arith }))
+one-run d input out b o =
+    let rows = goodLines isRow input in
+    let k = good-threes (linesOf [] input) in
+    let samples = joined rows in
+    let n = length rows in
+    let m = threes-long k in
+    let e : rowsIn samples ≡ n = omega (arith, m) in
+    let r = run-0 d samples out b (rows-fit (length samples) (length out) n m o) in
+    let w : outOf d samples out ≡ writtenOf d samples n =
+    r .1 ∙ ap₂ (λ (j : ℕ) (l : List ℤ). writtenOf d samples j ++ l) e (drop-of-length-le out {i = 4 * rowsIn samples} (omega (arith, e, o))) ∙ append-nil (writtenOf d samples n) in
+    let q : runOf d samples out ≡ ranOf d samples n = r .0 ∙ ap (ranOf d samples) e in
+    let h = rows-run (tallyStart d) k (record { rows = omega arith; accepted = omega arith; clipped = omega arith }) in
+    ap₂ (λ (x : List ℕ) (y : Tally). headerText ++ (x ++ closingText (endsBad isRow input) y)) (rows-written (tallyStart d) k ∙ ap foursText (sym w)) (h ∙ with-first d (ranOf d samples n) n ∙ sym (ap₂ ranTally q e))
 
 -- ════ the counts are exact
 ran-few : (d : Drive) (samples : List ℤ) (n : ℕ) → (ranOf d samples n .accepted ≤ n) × (ranOf d samples n .clipped ≤ n)
@@ -128,14 +178,15 @@ ran-few d samples (suc n) =
     let s = rowStepped (ranOf d samples n .drive) samples n in
     (omega (arith, h .0, one-most (isAccepted s)), omega (arith, h .1, one-most (isClipped s)))
 
-rows-few : (ws : List (List ℕ)) → length (samplesOf ws) ≤ 3 * length ws
-unfolding samplesOf rowThen
-rows-few [] = omega arith
-rows-few (w ∷ ws) = by (rowIn w) refl (rows-few ws)
-  where
-    by : (o : Option (List ℤ)) → rowIn w ≡ o → length (samplesOf ws) ≤ 3 * length ws → length (rowThen o (samplesOf ws)) ≤ 3 * length (w ∷ ws)
-    by none e h = omega arith
-    by (some row) e h = simp length-append (omega (arith, h, row-long w row e))
+then-few : (o : Option (List ℤ)) (rows : List (List ℤ)) (n : ℕ) → length rows ≤ n → length (goodThen o rows) ≤ n + 1
+unfolding goodThen
+then-few none rows n h = omega arith
+then-few (some zs) rows n h = omega (arith, h)
+
+good-few : (ws : List (List ℕ)) → length (goodOf isRow ws) ≤ length ws
+unfolding goodOf
+good-few [] = omega arith
+good-few (w ∷ ws) = omega (arith, then-few (goodIn isRow w) (goodOf isRow ws) (length ws) (good-few ws))
 
 lines-few : (p bs : List ℕ) → length (linesOf p bs) ≤ length bs
 unfolding linesOf
@@ -146,16 +197,13 @@ lines-few p (b ∷ bs) = by (eqb b 10) (lines-few [] bs) (lines-few (p ++ (b ∷
     by true h k = omega arith
     by false h k = omega arith
 
--- of an input of fewer than 2^64 − 1 bytes no count is held: the rows' answers are the run's, then the bad line's number, then the run's counts
-pub exact : (d : Drive) (input : List ℕ) → length input < 18446744073709551615 → programText d input ≡ headerText ++ exactText d (samplesOf (linesOf [] input)) (endsBad (linesOf [] input) (restOf [] input))
-unfolding closingText
-exact d input h =
-    let samples = samplesOf (linesOf [] input) in
-    let n = rowsIn samples in
-    let f = ran-few d samples n in
-    let l : n ≤ length input = omega (arith, rows-few (linesOf [] input), lines-few [] input) in
-    let a : plus 0 n ≡ n = omega arith in
-    let b : plus 0 (ranOf d samples n .accepted) ≡ ranOf d samples n .accepted = omega (arith, f .0) in
-    let c : plus 0 (ranOf d samples n .clipped) ≡ ranOf d samples n .clipped = omega (arith, f .1) in
-    let e : after n ≡ n + 1 = omega arith in
-    one-run d input ∙ rw (a, b, c, e) refl
+-- of an input of fewer than 2^64 − 1 bytes no count is held, the number of a bad line included
+pub counts-exact : (d : Drive) (input : List ℕ) → length input < 18446744073709551615 →
+    let rows = goodLines isRow input in
+    let ran = ranOf d (joined rows) (length rows) in
+    (held (length rows) ≡ length rows) × (oneMore (length rows) ≡ length rows + 1) × (held (ran .accepted) ≡ ran .accepted) × (held (ran .clipped) ≡ ran .clipped)
+counts-exact d input h =
+    let rows = goodLines isRow input in
+    let f = ran-few d (joined rows) (length rows) in
+    let l : length rows ≤ length input = omega (arith, good-few (linesOf [] input), lines-few [] input) in
+    (omega (arith, l, h), omega (arith, l, h), omega (arith, l, h, f .0), omega (arith, l, h, f .1))

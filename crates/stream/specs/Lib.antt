@@ -1,3 +1,2 @@
 pub mod Program
-pub mod Feeding
-pub mod OneRun
+pub mod Streaming

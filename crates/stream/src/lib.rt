@@ -1,13 +1,15 @@
 // The program without its reads and writes: bytes go in as they come, in chunks of any size, and what they are answered comes out.
 ghost use mathlib.Core.Path.{_≡_};
-ghost use mathlib.Core.Bool.{true, cond};
+ghost use mathlib.Core.Bool.{true, cond, not, _&&_};
 ghost use Prim.Native.Nat.{_+_, _*_, _≤_};
+ghost use lib.Dec.{eqb};
 ghost use lib.ListN.{length};
 ghost use Rattle.sine.specs.Sine.{sineTable};
 ghost use Rattle.text.specs.Decimal.{written};
 ghost use Rattle.record.specs.Record.{sound as soundOf};
-ghost use Rattle.stream.specs.Program.{after, headerText, tallyOf, answerText, totalsText, closingText};
-ghost use Rattle.stream.specs.Feeding.{isRow, streamStart, fedOf, textOf};
+ghost use Rattle.feeding.specs.Lines.{oneMore};
+ghost use Rattle.stream.specs.Program.{headerText, tallyOf, answerText, totalsText};
+ghost use Rattle.stream.specs.Streaming.{asFed, streamStart, rowsFed, rowsText, endText};
 use record::Drive;
 use text::Line;
 
@@ -41,26 +43,15 @@ pub struct Passed {
     pub place: usize,
 }
 
-// Held at the end, which no input reaches, so that it does not wrap.
-fn next(number: u64) -> u64
-    ensures { λ r. ⌜ r ≡ after number ⌝ }
-{
-    if number < u64::MAX {
-        number + 1
-    } else {
-        number
-    }
-}
-
 fn next_if(more: bool, number: u64) -> u64
-    ensures { λ r. ⌜ r ≡ cond more (after number) number ⌝ }
+    ensures { λ r. ⌜ r ≡ cond more (oneMore number) number ⌝ }
 {
-    if more { next(number) } else { number }
+    if more { feeding::next(number) } else { number }
 }
 
-// A row is a line of exactly three numbers.
+// Whether a line that was ended is a row: it has exactly three numbers.
 fn is_row(l: Line) -> bool
-    ensures { λ r. ⌜ r ≡ isRow l ⌝ }
+    ensures { λ r. ⌜ r ≡ not (l .bad) && eqb (l .count) 3 ⌝ }
 {
     !l.bad & (l.count == 3)
 }
@@ -78,7 +69,7 @@ fn row_told(t: Tally, row: [i32; 3], table: &sine::Table, out: &mut [u8], at: us
     Told {
         tally: Tally {
             drive: drive,
-            rows: next(t.rows),
+            rows: feeding::next(t.rows),
             accepted: next_if(accepted, t.accepted),
             clipped: next_if(accepted & s.pulses.clipped, t.clipped),
         },
@@ -96,7 +87,7 @@ pub fn put_header(out: &mut [u8], at: usize) -> usize
 
 // Nothing is read yet.
 pub fn start(d: Drive) -> Stream
-    ensures { λ s. ⌜ s ≡ streamStart d ⌝ }
+    ensures { λ s. ⌜ asFed s ≡ streamStart d ⌝ }
 {
     Stream {
         tally: Tally {
@@ -112,11 +103,11 @@ pub fn start(d: Drive) -> Stream
     }
 }
 
-// The bytes of a chunk, whole lines or not, one by one.
+// The bytes of a chunk, whether lines stand whole in it or not.
 pub fn fed(s: Stream, chunk: &[u8], table: &sine::Table, out: &mut [u8], at: usize) -> Passed
     requires { ⌜ (soundOf (s .tally .drive) ≡ true) × (now table ≡ sineTable) × (at + 48 * length (now chunk) ≤ length (now out)) ⌝ }
-    ensures { λ r. ⌜ (r .stream ≡ fedOf s (now (chunk .entry))) × (r .place ≡ at + length (textOf s (now (chunk .entry)))) × (now (out .exit) ≡ written (now (out .entry)) at (textOf s (now (chunk .entry)))) × (r .place ≤ at + 48 * length (now (chunk .entry))) ⌝ }
-    ensures { λ r. ⌜ soundOf (r .stream .tally .drive) ≡ true ⌝ }
+    ensures { λ r. ⌜ (asFed (r .stream) ≡ rowsFed (asFed s) (now (chunk .entry))) × (soundOf (r .stream .tally .drive) ≡ true) ⌝ }
+    ensures { λ r. ⌜ (r .place ≡ at + length (rowsText (asFed s) (now (chunk .entry)))) × (now (out .exit) ≡ written (now (out .entry)) at (rowsText (asFed s) (now (chunk .entry)))) × (r .place ≤ at + 48 * length (now (chunk .entry))) ⌝ }
 {
     let mut tally = s.tally;
     let mut line = s.line;
@@ -126,23 +117,18 @@ pub fn fed(s: Stream, chunk: &[u8], table: &sine::Table, out: &mut [u8], at: usi
     let mut place = at;
     let mut i = 0;
     while i < chunk.len() && !stopped {
-        let b = chunk[i];
-        i += 1;
-        if b == b'\n' {
-            line = text::line_end(line, &mut row);
-            if is_row(line) {
-                let t = row_told(tally, row, table, out, place);
-                tally = t.tally;
-                place = t.place;
-                line = text::line_start();
-                begun = false;
-            } else {
-                begun = true;
-                stopped = true;
-            }
+        let f = feeding::line_fed(line, chunk, i, &mut row);
+        i = f.place;
+        if f.ended & is_row(f.line) {
+            let t = row_told(tally, row, table, out, place);
+            tally = t.tally;
+            place = t.place;
+            line = text::line_start();
+            begun = false;
         } else {
-            line = text::line_next(line, b, &mut row);
+            line = f.line;
             begun = true;
+            stopped = f.ended;
         }
     }
     Passed {
@@ -171,10 +157,10 @@ fn put_totals(accepted: u64, clipped: u64, out: &mut [u8], at: usize) -> usize
 // What is written last: that a line is bad, where one is no row or has no line feed, and the totals so far.
 pub fn ended(s: Stream, out: &mut [u8], at: usize) -> usize
     requires { ⌜ at + 81 ≤ length (now out) ⌝ }
-    ensures { λ r. ⌜ (r ≡ at + length (closingText (s .begun) (s .tally))) × (now (out .exit) ≡ written (now (out .entry)) at (closingText (s .begun) (s .tally))) × (r ≤ at + 81) ⌝ }
+    ensures { λ r. ⌜ (r ≡ at + length (endText (asFed s))) × (now (out .exit) ≡ written (now (out .entry)) at (endText (asFed s))) × (r ≤ at + 81) ⌝ }
 {
     if s.begun {
-        let place = text::put_bad(next(s.tally.rows), out, at);
+        let place = text::put_bad(feeding::next(s.tally.rows), out, at);
         return put_totals(s.tally.accepted, s.tally.clipped, out, place);
     }
     put_totals(s.tally.accepted, s.tally.clipped, out, at)
