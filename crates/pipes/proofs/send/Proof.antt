@@ -1,11 +1,11 @@
--- `output::send` is safe: so many bytes are that many.
+-- `pipes::send` is safe: so many bytes are that many.
 -- Assumes nothing.
 use borrow.Author.Needs.{needs}
 use mathlib.Core.Path.{sym}
 use denote.Ref.{now}
 use lib.Seq.{length-take-le}
-use Rattle.output.proofs.send.Statement.{statement}
-use Rattle.output.proofs.send.Tie as tie
+use Rattle.pipes.proofs.send.Statement.{statement}
+use Rattle.pipes.proofs.send.Tie as tie
 
 slice-aggregate-write-all : tie.Need-slice-aggregate-write-all
 slice-aggregate-write-all c =

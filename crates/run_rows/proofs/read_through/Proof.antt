@@ -1,26 +1,26 @@
--- `run_rows::passed` is safe and ends: the slices keep their lengths, and the drive stays sound. The measure is how many turns are left.
+-- `run_rows::read_through` is safe and ends: the slices keep their lengths, and the drive stays sound. The measure is how many turns are left.
 -- Assumes nothing.
 use mathlib.Core.Path.{_≡_, _∙_}
 use mathlib.Core.Bool.{true}
 use native.Mathlib.Omega.{arith}
 use lib.ListN.{length}
 use Rattle.record.specs.Record.{sound}
-use Rattle.run_rows.proofs.passed.Statement.{statement}
-use Rattle.run_rows.proofs.passed.Tie as tie
+use Rattle.run_rows.proofs.read_through.Statement.{statement}
+use Rattle.run_rows.proofs.read_through.Tie as tie
 
 abbrev Inv-loop : tie.InvT-loop
-Inv-loop bytes₀ table out₀ n₀ going₀ turns₀ bytes out n going turns =
+Inv-loop header-sent bytes₀ table out₀ n₀ unread₀ sent₀ going₀ turns₀ bytes out n unread sent going turns =
     (length bytes ≡ length bytes₀) × (length out ≡ length out₀) × (sound (n .tally .drive) ≡ true)
 
 abbrev μ-loop : tie.MeasureT-loop
-μ-loop bytes₀ table out₀ n₀ going₀ turns₀ bytes out n going turns = turns
+μ-loop header-sent bytes₀ table out₀ n₀ unread₀ sent₀ going₀ turns₀ bytes out n unread sent going turns = turns
 
 loop-holds : tie.Need-loop-holds Inv-loop μ-loop
 loop-holds c = (omega arith, omega arith, c .before .before .pre .0)
 
 loop-again : tie.Need-loop-again Inv-loop μ-loop
 loop-again c =
-    let t = c .before .before .before .before .before .before .before in
+    let t = c .before .before .before .before .before .before .before .before in
     let l = t .before .before .before .before .before .loop in
     (t .turn .kept .1 .0 ∙ l .inv .0, t .turn .kept .1 .1 .1 .0 ∙ l .inv .1, t .turn .ensures .2)
 
@@ -31,13 +31,13 @@ turn-requires c κs =
 
 -- that all of it fits
 sub-turns : tie.Need-sub-turns Inv-loop μ-loop
-sub-turns c = let t = c .before .before .before .before .before .before .before in omega (arith, t .before .before .before .before .loop-test .taken)
+sub-turns c = let t = c .before .before .before .before .before .before .before .before in omega (arith, t .before .before .before .before .loop-test .taken)
 
 loop-less : tie.Need-loop-less Inv-loop μ-loop
-loop-less c = let t = c .before .before .before .before .before .before .before in omega (arith, t .before .before .before .before .loop-test .taken)
+loop-less c = let t = c .before .before .before .before .before .before .before .before in omega (arith, t .before .before .before .before .loop-test .taken)
 
-pub passed-spec : {M : Type 1} → statement M
-passed-spec =
+pub read-through-spec : {M : Type 1} → statement M
+read-through-spec =
     tie.close
     (tie.spec
     Inv-loop

@@ -1,0 +1,37 @@
+// Standard input and output, for programs that read, feed and write: what a read brought, and whether a write went through.
+ghost use mathlib.Core.Path.{_≡_};
+ghost use mathlib.Core.Bool.{true};
+ghost use Prim.Native.Nat.{_≤_};
+ghost use lib.ListN.{length};
+ghost use Rattle.io.specs.Counts.{Counts};
+use libc::STDERR_FILENO;
+use libc::STDIN_FILENO;
+use libc::STDOUT_FILENO;
+
+// What a read brought: so many bytes, none of them at the end of the input; or that it failed, and then none.
+pub struct Got {
+    pub size: usize,
+    pub failed: bool,
+}
+
+pub fn receive(bytes: &mut [u8]) -> Got
+    ensures { λ r. ⌜ Counts (r .size) (now (bytes .exit)) ⌝ }
+{
+    let got = libc::read(STDIN_FILENO, bytes);
+    Got {
+        size: io::count(got, bytes),
+        failed: got < 0,
+    }
+}
+
+// The first so many bytes, and whether all of them were taken.
+pub fn send(out: &[u8], place: usize) -> bool
+    requires { ⌜ place ≤ length (now out) ⌝ }
+{
+    io::write_all(STDOUT_FILENO, &out[..place])
+}
+
+// Words for whoever started the program. Where they too cannot be written there is nobody left to tell.
+pub fn complain(words: &[u8]) {
+    io::write_all(STDERR_FILENO, words);
+}
