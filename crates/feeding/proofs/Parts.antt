@@ -74,19 +74,19 @@ going-on {r} {chunk} {from} {cur} {i} {l} {ns} g h e el en = record {
 }
 
 -- what is said of a line l and numbers ns at the place i
-abbrev pub Told : Reading → List ℕ → ℕ → Line → List ℤ → Bool → ℕ → Type 0
+abbrev Told : Reading → List ℕ → ℕ → Line → List ℤ → Bool → ℕ → Type 0
 Told r chunk from l ns ended i =
-    ((l ≡ partOf r (drop from chunk) .reading .line) × (ns ≡ partOf r (drop from chunk) .reading .numbers) × (ended ≡ partOf r (drop from chunk) .ended) × (drop i chunk ≡ partOf r (drop from chunk) .behind))
+    (partOf r (drop from chunk) ≡ record { reading = record { line = l; numbers = ns }; ended = ended; behind = drop i chunk })
     × ((i ≤ length chunk) × (from < length chunk → from < i))
 
 pub going-ended : {r : Reading} {chunk : List ℕ} {from : ℕ} {cur : Reading} {i : ℕ} {l : Line} {ns : List ℤ} → Going r chunk from cur i → i < length chunk → getD chunk i 0 ≡ 10 →
     l ≡ lineEnd (cur .line) (length (cur .numbers)) → ns ≡ numbersEnd (cur .line) (cur .numbers) → Told r chunk from l ns true (i + 1)
 going-ended {r} {chunk} {from} {cur} {i} g h e el en =
-    rw (g .ahead, part-end cur chunk i h e) ((el, en, refl, refl), (omega (arith, h), λ q. omega (arith, g .low)))
+    (g .ahead ∙ part-end cur chunk i h e ∙ rw (el, en) refl, (omega (arith, h), λ q. omega (arith, g .low)))
 
 pub going-past : {r : Reading} {chunk : List ℕ} {from : ℕ} {cur : Reading} {i : ℕ} → Going r chunk from cur i → length chunk ≤ i → Told r chunk from (cur .line) (cur .numbers) false i
 going-past {r} {chunk} {from} {cur} {i} g h =
-    rw (g .ahead, part-past cur chunk i h) ((refl, refl, refl, drop-of-length-le chunk {i = i} h), (g .high, λ q. omega (arith, h, q)))
+    (g .ahead ∙ part-past cur chunk i h ∙ rw (drop-of-length-le chunk {i = i} h) refl, (g .high, λ q. omega (arith, h, q)))
 
 -- however far it goes
 pub part-length : (r : Reading) (bs : List ℕ) → length (partOf r bs .reading .numbers) ≡ length (r .numbers)

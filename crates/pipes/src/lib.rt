@@ -1,6 +1,4 @@
 // Standard input and output, for programs that read, feed and write: what a read brought, and whether a write went through.
-ghost use mathlib.Core.Path.{_≡_};
-ghost use mathlib.Core.Bool.{true};
 ghost use Prim.Native.Nat.{_≤_};
 ghost use lib.ListN.{length};
 ghost use Rattle.io.specs.Counts.{Counts};
@@ -31,7 +29,13 @@ pub fn send(out: &[u8], place: usize) -> bool
     io::write_all(STDOUT_FILENO, &out[..place])
 }
 
-// Words for whoever started the program. Where they too cannot be written there is nobody left to tell.
-pub fn complain(words: &[u8]) {
-    io::write_all(STDERR_FILENO, words);
+// Words for whoever started the program, on standard error. Where they too cannot be written there is nobody left to tell.
+pub fn unread(program: &[u8]) {
+    io::write_all(STDERR_FILENO, program);
+    io::write_all(STDERR_FILENO, b": standard input cannot be read\n");
+}
+
+pub fn unsent(program: &[u8]) {
+    io::write_all(STDERR_FILENO, program);
+    io::write_all(STDERR_FILENO, b": standard output cannot be written\n");
 }

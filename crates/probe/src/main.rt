@@ -1,14 +1,20 @@
 // The calls as text: each line of standard input is one call of `drive`, each line of standard output is what it answered. So that a
 // model of the drive, in any language, can be held against it word by word.
 ghost use mathlib.Core.Path.{_≡_};
-ghost use Prim.Native.Nat.{_+_, _≤_};
-ghost use lib.ListN.{length};
+ghost use Prim.Native.Nat.{_+_, _*_, _≤_};
+ghost use mathlib.Core.Bool.{cond};
+ghost use mathlib.Core.List.{[]};
+ghost use lib.IntN.{pos};
+ghost use lib.ListN.{length, take, replicate};
+ghost use Rattle.text.specs.Decimal.{badText, written};
+ghost use Rattle.feeding.specs.Lines.{oneMore};
+ghost use Rattle.feeding.specs.Feeding.{between, fedOf};
+ghost use Rattle.probe.specs.Calls.{callBy, isCall, counted, asFed};
 use drive::Answered;
 use drive::Made;
 use drive::Stepped;
 use field::Field;
 use frames::Stator;
-use libc::STDIN_FILENO;
 use modulation::Pulses;
 use record::Command;
 use record::Drive;
@@ -17,20 +23,24 @@ use record::Settings;
 use shaft::Shaft;
 use text::Line;
 
-// What is kept from one byte to the next: the line at hand, how many came before it, whether a byte of it came; whether a line came that is
-// no call, after which nothing is looked at; and how many bytes of output wait.
-pub struct State {
-    pub line: Line,
+// What is kept from one byte to the next: how many calls came, the line at hand, its numbers, and whether a byte of it came; whether a line came
+// that is no call, after which nothing is looked at.
+pub struct Calls {
     pub before: u64,
+    pub line: Line,
+    pub numbers: [i32; 34],
     pub begun: bool,
     pub stopped: bool,
+}
+
+// A chunk is fed: the calls after it, and the place behind what was written.
+pub struct Passed {
+    pub calls: Calls,
     pub place: usize,
 }
 
 // Numbers in: the call, 15 settings, 15 words of the record, then the call's own.
-fn settings_in(n: &[i32]) -> Settings
-    requires { ⌜ 34 ≤ length (now n) ⌝ }
-{
+fn settings_in(n: &[i32; 34]) -> Settings {
     Settings {
         t: n[1],
         skp: n[2],
@@ -50,9 +60,7 @@ fn settings_in(n: &[i32]) -> Settings
     }
 }
 
-fn shaft_in(n: &[i32]) -> Shaft
-    requires { ⌜ 34 ≤ length (now n) ⌝ }
-{
+fn shaft_in(n: &[i32; 34]) -> Shaft {
     Shaft {
         count: n[16],
         seen: n[17] != 0,
@@ -62,9 +70,7 @@ fn shaft_in(n: &[i32]) -> Shaft
     }
 }
 
-fn command_in(n: &[i32]) -> Command
-    requires { ⌜ 34 ≤ length (now n) ⌝ }
-{
+fn command_in(n: &[i32; 34]) -> Command {
     Command {
         target: n[21],
         reference: n[22],
@@ -73,18 +79,14 @@ fn command_in(n: &[i32]) -> Command
     }
 }
 
-fn field_in(n: &[i32]) -> Field
-    requires { ⌜ 34 ≤ length (now n) ⌝ }
-{
+fn field_in(n: &[i32; 34]) -> Field {
     Field {
         flux: n[25],
         angle: n[26],
     }
 }
 
-fn integrals_in(n: &[i32]) -> Integrals
-    requires { ⌜ 34 ≤ length (now n) ⌝ }
-{
+fn integrals_in(n: &[i32; 34]) -> Integrals {
     Integrals {
         speed: n[27],
         d: n[28],
@@ -92,9 +94,7 @@ fn integrals_in(n: &[i32]) -> Integrals
     }
 }
 
-fn drive_in(n: &[i32]) -> Drive
-    requires { ⌜ 34 ≤ length (now n) ⌝ }
-{
+fn drive_in(n: &[i32; 34]) -> Drive {
     Drive {
         settings: settings_in(n),
         shaft: shaft_in(n),
@@ -105,26 +105,17 @@ fn drive_in(n: &[i32]) -> Drive
     }
 }
 
-fn flag(v: i32) -> bool {
-    (v == 0) | (v == 1)
-}
-
-// Whether a line of so many numbers is a call.
-fn is_call(n: &[i32], count: usize) -> bool
-    requires { ⌜ 34 ≤ length (now n) ⌝ }
+// Whether so many numbers are a call: 0 makes a drive, 1 steps it, 2 sets its target, 3 clears it. A flag is 0 or 1.
+fn is_call(n: &[i32; 34], count: usize) -> bool
+    ensures { λ r. ⌜ r ≡ callBy (now (n .entry)) count ⌝ }
 {
     let call = n[0];
-    if call == 0 {
-        return count == 16;
-    }
-    let flags = flag(n[17]) & flag(n[30]);
-    if call == 1 {
-        return flags & (count == 34);
-    }
-    if call == 2 {
-        return flags & (count == 32);
-    }
-    flags & (call == 3) & (count == 31)
+    let flags = fixed::within(0, 1, n[17]) & fixed::within(0, 1, n[30]);
+    let made = (count == 16) & fixed::within(0, 0, call);
+    let stepped = (count == 34) & (fixed::within(1, 1, call) & flags);
+    let targeted = (count == 32) & (fixed::within(2, 2, call) & flags);
+    let cleared = (count == 31) & (fixed::within(3, 3, call) & flags);
+    made | stepped | targeted | cleared
 }
 
 // Numbers out.
@@ -239,8 +230,8 @@ fn made(m: Made, words: &mut [i32]) -> usize
     drive_out(d, words, at)
 }
 
-fn answer(n: &[i32], words: &mut [i32]) -> usize
-    requires { ⌜ (34 ≤ length (now n)) × (22 ≤ length (now words)) ⌝ }
+fn answer(n: &[i32; 34], words: &mut [i32]) -> usize
+    requires { ⌜ 22 ≤ length (now words) ⌝ }
     ensures { λ r. ⌜ (1 ≤ r) × (r ≤ 22) ⌝ }
 {
     let call = n[0];
@@ -258,8 +249,8 @@ fn answer(n: &[i32], words: &mut [i32]) -> usize
 }
 
 // Twelve bytes for each of 22 words.
-fn put_answer(n: &[i32], out: &mut [u8], at: usize) -> usize
-    requires { ⌜ (34 ≤ length (now n)) × (at + 264 ≤ length (now out)) ⌝ }
+fn put_answer(n: &[i32; 34], out: &mut [u8], at: usize) -> usize
+    requires { ⌜ at + 264 ≤ length (now out) ⌝ }
     ensures { λ r. ⌜ r ≤ at + 264 ⌝ }
 {
     let mut words = [0i32; 22];
@@ -267,118 +258,127 @@ fn put_answer(n: &[i32], out: &mut [u8], at: usize) -> usize
     text::put_line(&words, k, out, at)
 }
 
-// Held at the end, which no input reaches, so that it does not wrap.
-fn next(number: u64) -> u64 {
-    if number < u64::MAX {
-        number + 1
-    } else {
-        number
-    }
-}
-
-// What waits is sent where less room is left than an answer needs.
-fn flushed(out: &[u8], place: usize) -> usize
-    requires { ⌜ (place ≤ length (now out)) × (264 ≤ length (now out)) ⌝ }
-    ensures { λ r. ⌜ r + 264 ≤ length (now (out .entry)) ⌝ }
+fn start() -> Calls
+    ensures { λ r. ⌜ asFed r ≡ between 0 (replicate 34 (pos 0)) ⌝ }
 {
-    if 264 <= out.len() - place {
-        return place;
-    }
-    output::send(out, place);
-    0
-}
-
-// One byte. At a line's end its call is answered, or it is the last that is read.
-fn fed_byte(s: State, b: u8, numbers: &mut [i32], out: &mut [u8]) -> State
-    requires { ⌜ (34 ≤ length (now numbers)) × (s .place + 264 ≤ length (now out)) ⌝ }
-    ensures { λ r. ⌜ r .place + 264 ≤ length (now (out .entry)) ⌝ }
-{
-    let mut n = s;
-    n.begun = true;
-    if b != b'\n' {
-        n.line = text::line_next(s.line, b, numbers);
-        return n;
-    }
-    let l = text::line_end(s.line, numbers);
-    if l.bad | !is_call(numbers, l.count) {
-        n.stopped = true;
-        return n;
-    }
-    let place = put_answer(numbers, out, s.place);
-    n.place = flushed(out, place);
-    n.line = text::line_start();
-    n.before = next(s.before);
-    n.begun = false;
-    n
-}
-
-fn fed(s: State, chunk: &[u8], numbers: &mut [i32], out: &mut [u8]) -> State
-    requires { ⌜ (34 ≤ length (now numbers)) × (s .place + 264 ≤ length (now out)) ⌝ }
-    ensures { λ r. ⌜ r .place + 264 ≤ length (now (out .entry)) ⌝ }
-{
-    let mut n = s;
-    let mut i = 0;
-    while i < chunk.len() && !n.stopped {
-        n = fed_byte(n, chunk[i], numbers, out);
-        i += 1;
-    }
-    n
-}
-
-// A chunk is read and fed. An error is taken as the end of the input, at which nothing more is looked at.
-fn turn(s: State, bytes: &mut [u8], numbers: &mut [i32], out: &mut [u8]) -> State
-    requires { ⌜ (34 ≤ length (now numbers)) × (s .place + 264 ≤ length (now out)) ⌝ }
-    ensures { λ r. ⌜ r .place + 264 ≤ length (now (out .entry)) ⌝ }
-{
-    let got = libc::read(STDIN_FILENO, bytes);
-    let size = io::count(got, bytes);
-    let mut n = fed(s, &bytes[..size], numbers, out);
-    n.stopped = n.stopped | (size == 0);
-    n
-}
-
-// A proved loop has to end, and nothing says that the input does: so the turns are counted, from a number that no run uses up.
-fn passed(s: State, bytes: &mut [u8], numbers: &mut [i32], out: &mut [u8]) -> State
-    requires { ⌜ (34 ≤ length (now numbers)) × (s .place + 264 ≤ length (now out)) ⌝ }
-    ensures { λ r. ⌜ r .place + 264 ≤ length (now (out .entry)) ⌝ }
-{
-    let mut n = s;
-    let mut turns = u64::MAX;
-    while 0 < turns && !n.stopped {
-        n = turn(n, bytes, numbers, out);
-        turns -= 1;
-    }
-    n
-}
-
-fn start() -> State
-    ensures { λ r. ⌜ r .place ≡ 0 ⌝ }
-{
-    State {
-        line: text::line_start(),
+    Calls {
         before: 0,
+        line: text::line_start(),
+        numbers: [0; 34],
         begun: false,
         stopped: false,
-        place: 0,
+    }
+}
+
+// The bytes of a chunk, whether lines stand whole in it or not. A call is answered by 264 bytes at most.
+fn fed(s: Calls, chunk: &[u8], out: &mut [u8], at: usize) -> Passed
+    requires { ⌜ at + 264 * length (now chunk) ≤ length (now out) ⌝ }
+    ensures { λ r. ⌜ (asFed (r .calls) ≡ fedOf isCall counted (asFed s) (now (chunk .entry))) × (r .place ≤ at + 264 * length (now (chunk .entry))) ⌝ }
+{
+    let mut before = s.before;
+    let mut line = s.line;
+    let mut numbers = s.numbers;
+    let mut begun = s.begun;
+    let mut stopped = s.stopped;
+    let mut place = at;
+    let mut i = 0;
+    while i < chunk.len() && !stopped {
+        let f = feeding::line_fed(line, chunk, i, &mut numbers);
+        i = f.place;
+        if f.ended & (!f.line.bad & is_call(&numbers, f.line.count)) {
+            place = put_answer(&numbers, out, place);
+            before = feeding::next(before);
+            line = text::line_start();
+            begun = false;
+        } else {
+            line = f.line;
+            begun = true;
+            stopped = f.ended;
+        }
+    }
+    Passed {
+        calls: Calls {
+            before: before,
+            line: line,
+            numbers: numbers,
+            begun: begun,
+            stopped: stopped,
+        },
+        place: place,
     }
 }
 
 // What is written last: that a line is bad, where one is no call or has no line feed.
-fn ended(s: State, out: &mut [u8]) -> usize
-    requires { ⌜ s .place + 264 ≤ length (now out) ⌝ }
-    ensures { λ r. ⌜ r ≤ length (now (out .entry)) ⌝ }
+fn ended(s: Calls, out: &mut [u8]) -> usize
+    requires { ⌜ 25 ≤ length (now out) ⌝ }
+    ensures { λ r. ⌜ (r ≡ 0 + length (cond (s .begun) (badText (oneMore (s .before))) [])) × (now (out .exit) ≡ written (now (out .entry)) 0 (cond (s .begun) (badText (oneMore (s .before))) [])) × (r ≤ 25) ⌝ }
 {
     if s.begun {
-        return text::put_bad(next(s.before), out, s.place);
+        return text::put_bad(feeding::next(s.before), out, 0);
     }
-    s.place
+    0
 }
 
+// What a turn leaves: the calls; how many bytes were read, or that the read failed; whether all that was written was sent; whether to go on.
+pub struct Turned {
+    pub calls: Calls,
+    pub size: usize,
+    pub unread: bool,
+    pub sent: bool,
+    pub going: bool,
+}
+
+// A chunk is read and fed, and what it is answered is sent.
+fn turn(s: Calls, bytes: &mut [u8], out: &mut [u8]) -> Turned
+    requires { ⌜ 264 * length (now bytes) ≤ length (now out) ⌝ }
+    ensures { λ r. ⌜ asFed (r .calls) ≡ fedOf isCall counted (asFed s) (take (r .size) (now (bytes .exit))) ⌝ }
+{
+    let got = pipes::receive(bytes);
+    let size = got.size;
+    let p = fed(s, &bytes[..size], out, 0);
+    let calls = p.calls;
+    let sent = pipes::send(out, p.place);
+    Turned {
+        calls: calls,
+        size: size,
+        unread: got.failed,
+        sent: sent,
+        going: (0 < size) & sent & !calls.stopped,
+    }
+}
+
+// Turn by turn, until a line came that is no call, the input is over, or a read or a write failed.
+// A proved loop has to end, and nothing says that the input does: so the turns are counted, from a number that no run uses up.
+fn read_through(first: Turned, bytes: &mut [u8], out: &mut [u8]) -> Turned
+    requires { ⌜ 264 * length (now bytes) ≤ length (now out) ⌝ }
+{
+    let mut t = first;
+    let mut turns = u64::MAX;
+    while 0 < turns && t.going {
+        t = turn(t.calls, bytes, out);
+        turns -= 1;
+    }
+    t
+}
+
+// Where a read or a write failed words on standard error say so.
 fn main() {
-    let mut bytes = io::large_buffer();
-    let mut numbers = [0i32; 34];
-    let mut out = io::large_buffer();
-    let s = passed(start(), &mut bytes, &mut numbers, &mut out);
-    let place = ended(s, &mut out);
-    output::send(&out, place);
+    let mut bytes = [0u8; 256];
+    let mut out = [0u8; 67584];
+    let first = Turned {
+        calls: start(),
+        size: 0,
+        unread: false,
+        sent: true,
+        going: true,
+    };
+    let t = read_through(first, &mut bytes, &mut out);
+    if t.unread {
+        pipes::unread(b"probe");
+        return;
+    }
+    let place = ended(t.calls, &mut out);
+    if !(t.sent && pipes::send(&out, place)) {
+        pipes::unsent(b"probe");
+    }
 }

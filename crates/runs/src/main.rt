@@ -23,7 +23,7 @@ fn tell(r: Ran, answers: &[i32], out: &mut [u8])
     let e = text::put_byte(b' ', out, c);
     let f = text::put_line(&number, 1, out, e);
     let end = text::put_line(answers, 8, out, f);
-    output::send(out, end);
+    pipes::send(out, end);
 }
 
 fn ran(d: Drive, samples: &[i32], lent: usize, out: &mut [u8])

@@ -1,4 +1,4 @@
--- Laws of a line's text: a number more, how long it is, and what stands while it is written.
+-- Laws of a line's text: a number more, and what stands while it is written.
 -- Assumes nothing.
 use mathlib.Core.Path.{_≡_, refl, ap, ap₂, sym, _∙_}
 use mathlib.Core.List.{List, [], _∷_, _++_, append-assoc, append-nil}
@@ -18,19 +18,6 @@ use Rattle.text.proofs.Written.{written-none, written-then, written-len
 pub data AllFit : List ℤ → Type 0 where
   nil : AllFit []
   cons : {z : ℤ} {zs : List ℤ} → SFits w32 z → AllFit zs → AllFit (z ∷ zs)
-
--- ════ how long it is: at most 12 bytes for each number
-more-length : {zs : List ℤ} → AllFit zs → length (moreText zs) ≤ 12 * length zs
-unfolding moreText
-more-length nil = omega arith
-more-length (cons {z} {zs} f fs) =
-    simp length-append (omega (arith, text-length z f, more-length fs))
-
-pub line-length : {zs : List ℤ} → 1 ≤ length zs → AllFit zs → length (lineText zs) ≤ 12 * length zs
-unfolding lineText numbersText
-line-length h nil = absurd (omega (arith, h))
-line-length h (cons {z} {zs} f fs) =
-    simp length-append (omega (arith, text-length z f, more-length fs))
 
 -- ════ a number more
 more-more : (zs : List ℤ) (z : ℤ) → moreText (zs ++ (z ∷ [])) ≡ moreText zs ++ (32 ∷ textOf z)

@@ -206,13 +206,8 @@ only bs o h = split (lineOf bs) refl
 pub first-numbers : {o zs : List ℤ} {r : Reading} → Taken o zs r → take (r .line .count) (r .numbers) ≡ zs
 first-numbers {o} {zs} {r} t = rw (t .counted, t .front) (take-at zs (drop (length zs) o) (length zs) refl)
 
--- for whoever feeds it in pieces: one byte more, and bytes behind others
+-- for whoever feeds it in pieces: one byte more
 pub read-more : (r : Reading) (bs : List ℕ) (b : ℕ) → readAll r (bs ++ (b ∷ [])) ≡ readNext (readAll r bs) b
 unfolding readAll
 read-more r [] b = refl
 read-more r (a ∷ bs) b = read-more (readNext r a) bs b
-
-pub read-append : (r : Reading) (xs ys : List ℕ) → readAll r (xs ++ ys) ≡ readAll (readAll r xs) ys
-unfolding readAll
-read-append r [] ys = refl
-read-append r (x ∷ xs) ys = read-append (readNext r x) xs ys

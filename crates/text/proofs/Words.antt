@@ -196,16 +196,6 @@ pub word-bad : (bs : List ℕ) → wordOk (wordAfter wordStart bs) ≡ false →
 unfolding wordNumber
 word-bad bs h = sym (word-reads bs) ∙ cond-false (some (wordValue (wordAfter wordStart bs))) none h
 
-pub number-read : (bs : List ℕ) (z : ℤ) → numberOf bs ≡ some z → (wordOk (wordAfter wordStart bs) ≡ true) × (wordValue (wordAfter wordStart bs) ≡ z)
-number-read bs z e =
-    ⊎-elim (λ h. (h, Option·some-injective _ _ (sym (word-good bs h) ∙ e)))
-    (λ h. absurd (Option·none-ne-some z (sym (word-bad bs h) ∙ e)))
-    (true-or-false (wordOk (wordAfter wordStart bs)))
-
-pub none-refused : (bs : List ℕ) → numberOf bs ≡ none → wordOk (wordAfter wordStart bs) ≡ false
-none-refused bs e =
-    ⊎-elim (λ h. absurd (Option·none-ne-some _ (sym e ∙ word-good bs h))) (λ h. h) (true-or-false (wordOk (wordAfter wordStart bs)))
-
 -- one byte more at the end
 pub after-more : (w : Word) (bs : List ℕ) (b : ℕ) → wordAfter w (bs ++ (b ∷ [])) ≡ wordNext (wordAfter w bs) b
 unfolding wordAfter

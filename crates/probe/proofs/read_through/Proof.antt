@@ -1,0 +1,51 @@
+-- `probe::read_through` is safe and ends: the slices keep their lengths. The measure is how many turns are left.
+-- Assumes nothing.
+use mathlib.Core.Path.{_≡_, refl, _∙_}
+use native.Mathlib.Omega.{arith}
+use lib.ListN.{length}
+use Rattle.probe.proofs.read_through.Statement.{statement}
+use Rattle.probe.proofs.read_through.Tie as tie
+
+abbrev Inv-loop : tie.InvT-loop
+Inv-loop bytes₀ out₀ t₀ turns₀ bytes out t turns = (length bytes ≡ length bytes₀) × (length out ≡ length out₀)
+
+abbrev μ-loop : tie.MeasureT-loop
+μ-loop bytes₀ out₀ t₀ turns₀ bytes out t turns = turns
+
+turn-requires : tie.Need-turn-requires Inv-loop μ-loop
+turn-requires c κs =
+    let l = c .before .before .before .before in
+    let i = l .loop .inv in
+    let p = l .before .before .before .pre in
+    omega (arith, i .0, i .1, p)
+
+loop-again : tie.Need-loop-again Inv-loop μ-loop
+loop-again c =
+    let t = c .before .before .before .before in
+    let i = t .before .before .before .before .before .loop .inv in
+    (t .turn .kept .1 .0 ∙ i .0, t .turn .kept .1 .1 .0 ∙ i .1)
+
+-- that all of it fits
+sub-turns : tie.Need-sub-turns Inv-loop μ-loop
+sub-turns c = let l = c .before .before .before .before .before .before .before .before in omega (arith, l .loop-test .taken)
+
+loop-less : tie.Need-loop-less Inv-loop μ-loop
+loop-less c = let l = c .before .before .before .before .before .before .before .before in omega (arith, l .loop-test .taken)
+
+pub read-through-spec : {M : Type 1} → statement M
+read-through-spec =
+    tie.close
+    (tie.spec
+    Inv-loop
+    μ-loop
+    (λ c. (refl, refl))
+    turn-requires
+    sub-turns
+    loop-less
+    loop-again
+    (λ c. c .before .before .loop .inv .0)
+    (λ c. c .before .before .loop .inv .1)
+    (λ c. tt)
+    (λ c. c .before .loop .inv .0)
+    (λ c. c .before .loop .inv .1)
+    (λ c. tt))

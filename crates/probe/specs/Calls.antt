@@ -1,0 +1,33 @@
+-- Which lines are calls, and what is kept of them.
+use Prim.Native.Nat.{ℕ}
+use mathlib.Core.Bool.{Bool, _&&_, _||_}
+use mathlib.Core.List.{List}
+use lib.Dec.{eqb}
+use lib.IntN.{ℤ, pos}
+use lib.ListN.{length, getD}
+use Rattle.fixed.specs.Fixed.{within}
+use Rattle.feeding.specs.Lines.{oneMore}
+use Rattle.feeding.specs.Feeding.{Fed}
+use Rattle.probe.specs.declared.Calls.{Calls}
+
+-- a word of the record that is a flag is 0 or 1
+abbrev pub flags : List ℤ → Bool
+flags ns = within (pos 0) (pos 1) (getD ns 17 (pos 0)) && within (pos 0) (pos 1) (getD ns 30 (pos 0))
+
+-- so many numbers, of which the first says which call it is: 0 make, 1 step, 2 target, 3 clear
+abbrev pub call : List ℤ → ℤ → Bool
+call ns k = within k k (getD ns 0 (pos 0))
+
+unfoldable pub callBy : List ℤ → ℕ → Bool
+callBy ns n =
+    (eqb n 16 && call ns (pos 0)) || (eqb n 34 && (call ns (pos 1) && flags ns)) || (eqb n 32 && (call ns (pos 2) && flags ns)) || (eqb n 31 && (call ns (pos 3) && flags ns))
+
+unfoldable pub isCall : List ℤ → Bool
+isCall ns = callBy ns (length ns)
+
+-- what is kept of the lines is how many there were
+unfoldable pub counted : ℕ → List ℤ → ℕ
+counted n ns = oneMore n
+
+abbrev pub asFed : Calls → Fed ℕ
+asFed s = record { kept = s .before; reading = record { line = s .line; numbers = s .numbers }; begun = s .begun; stopped = s .stopped }
