@@ -132,8 +132,12 @@ fn main() {
         return;
     };
     let mut bytes = io::large_buffer();
-    let got = libc::read(0, &mut bytes);
-    let times = io::count(got, &bytes);
+    let got = pipes::receive(&mut bytes);
+    if got.failed {
+        pipes::unread(b"pace");
+        return;
+    }
+    let times = got.size;
     let samples = SAMPLES;
     let mut out = [0i32; 128];
     let accepted = if bytes[0] == b'e' {
