@@ -1,6 +1,6 @@
 -- 01's example: of its three lines the definition says, byte for byte, what 01 says is written.
 -- Assumes nothing.
-use mathlib.Core.Path.{_≡_, refl}
+use mathlib.Core.Path.{_≡_, refl, _∙_, ap}
 use mathlib.Core.Bool.{Bool, true, false}
 use mathlib.Core.List.{List, [], _∷_, _++_}
 use mathlib.Core.Option.{some}
@@ -22,8 +22,11 @@ use Rattle.rows.specs.Rows.{rowStepped, four, isAccepted, isClipped}
 use Rattle.text.specs.Grammar.{allDigits, valueOf, digitsOf, fitting as fittingNumber, numberOf as numberRead, cut, both, numbersOf, lineOf}
 use Rattle.text.specs.Decimal.{decimal, countText, textOf, moreText, numbersText, lineText}
 use Rattle.feeding.specs.Lines.{linesOf, restOf, any, fitting, goodIn, goodThen, goodOf, badOr, badOf, goodLines, endsBad, afterAll, answersTo}
+use Rattle.feeding.specs.Feeding.{joined}
 use Rattle.stream.specs.declared.Tally.{Tally}
 use Rattle.stream.specs.Program.{isRow, tallyStart, tallyOf, answerText, headerText, totalsText, closingText, programText}
+use Rattle.stream.specs.Streaming.{streamStart, chunksText}
+use Rattle.stream.proofs.Whole.{program}
 
 -- `0 0 0`, `9000 0 0`, `0 0 0`
 abbrev input : List ℕ
@@ -149,3 +152,7 @@ closing = refl
 pub example : programText (fresh bench) input ≡ output
 unfolding programText headerText
 example = rw (rows-read .0, rows-read .1, answers, all-after, closing) refl
+
+-- in whatever chunks it comes
+pub example-in-pieces : (cs : List (List ℕ)) → joined cs ≡ input → headerText ++ chunksText (streamStart (fresh bench)) cs ≡ output
+example-in-pieces cs e = program (fresh bench) cs ∙ ap (programText (fresh bench)) e ∙ example

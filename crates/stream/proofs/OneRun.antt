@@ -11,7 +11,7 @@ use native.Mathlib.Omega.{arith}
 use borrow.Author.Tests.{eqb-true, eq-eqb, le-leb}
 use lib.Dec.{eqb}
 use lib.IntN.{ℤ, pos}
-use lib.ListN.{length, drop, length-append, drop-of-length-le}
+use lib.ListN.{length, replicate, length-append, length-replicate, drop-of-length-le}
 use Rattle.record.specs.declared.Drive.{Drive}
 use Rattle.record.specs.Record.{broken}
 use Rattle.drive.specs.declared.Stepped.{Stepped}
@@ -151,17 +151,18 @@ rows-fit samples out n s o = and-both (eq-eqb (samples % 3) 0 (omega (arith, s))
 with-first : (d : Drive) (r : Ran) (n : ℕ) → withRun (tallyStart d) r n ≡ ranTally r n
 with-first d r n = rw (zero-add n, zero-add (r .accepted), zero-add (r .clipped)) refl
 
--- one run of all the rows, with as much output as it writes
-pub one-run : (d : Drive) (input : List ℕ) (out : List ℤ) → broken d ≡ false → length out ≡ 4 * length (goodLines isRow input) →
-    programText d input ≡ headerText ++ runText d (joined (goodLines isRow input)) out (endsBad isRow input)
+-- one run of all the rows, from a drive that is not broken
+pub one-run : (d : Drive) (input : List ℕ) → broken d ≡ false → programText d input ≡ headerText ++ runText d (joined (goodLines isRow input)) (endsBad isRow input)
 unfolding programText
-one-run d input out b o =
+one-run d input b =
     let rows = goodLines isRow input in
     let k = good-threes (linesOf [] input) in
     let samples = joined rows in
     let n = length rows in
     let m = threes-long k in
     let e : rowsIn samples ≡ n = omega (arith, m) in
+    let out = replicate (4 * rowsIn samples) (pos 0) in
+    let o : length out ≡ 4 * n = length-replicate (4 * rowsIn samples) (pos 0) ∙ ap (λ (j : ℕ). 4 * j) e in
     let r = run-0 d samples out b (rows-fit (length samples) (length out) n m o) in
     let w : outOf d samples out ≡ writtenOf d samples n =
     r .1 ∙ ap₂ (λ (j : ℕ) (l : List ℤ). writtenOf d samples j ++ l) e (drop-of-length-le out {i = 4 * rowsIn samples} (omega (arith, e, o))) ∙ append-nil (writtenOf d samples n) in

@@ -1,10 +1,10 @@
 -- What the program writes for an input, from the first byte to the last (document 01, "Rows and the program").
-use Prim.Native.Nat.{ℕ, min}
+use Prim.Native.Nat.{ℕ, _*_, min}
 use mathlib.Core.Bool.{Bool, cond}
 use mathlib.Core.List.{List, [], _∷_, _++_}
 use lib.Dec.{eqb}
-use lib.IntN.{ℤ}
-use lib.ListN.{length}
+use lib.IntN.{ℤ, pos}
+use lib.ListN.{length, replicate}
 use Rattle.record.specs.declared.Drive.{Drive}
 use Rattle.drive.specs.declared.Stepped.{Stepped}
 use Rattle.rows.specs.declared.Ran.{Ran}
@@ -77,6 +77,7 @@ held n = min n 18446744073709551615
 abbrev pub ranTally : Ran → ℕ → Tally
 ranTally r n = record { drive = r .drive; rows = held n; accepted = held (r .accepted); clipped = held (r .clipped) }
 
--- its output, and where it ends
-abbrev pub runText : Drive → List ℤ → List ℤ → Bool → List ℕ
-runText d samples out bad = foursText (outOf d samples out) ++ closingText bad (ranTally (runOf d samples out) (rowsIn samples))
+-- its output, over zeros of which there are as many as it writes, and where it ends
+abbrev pub runText : Drive → List ℤ → Bool → List ℕ
+runText d samples bad =
+    let out = replicate (4 * rowsIn samples) (pos 0) in foursText (outOf d samples out) ++ closingText bad (ranTally (runOf d samples out) (rowsIn samples))

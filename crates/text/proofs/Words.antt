@@ -4,7 +4,7 @@ use mathlib.Core.Path.{_≡_, refl, ap, sym, _∙_}
 use mathlib.Core.Bool.{Bool, true, false, cond, not, _&&_, _||_}
 use mathlib.Core.List.{List, [], _∷_, _++_}
 use mathlib.Core.Logic.{⊎-elim}
-use mathlib.Core.Option.{none, some, Option·some-injective, Option·none-ne-some}
+use mathlib.Core.Option.{Option, none, some}
 use Prim.Native.Nat.{ℕ, _+_, _-_, _*_, _<_, min}
 use native.Mathlib.Omega.{arith}
 use lib.Dec.{eqb}
@@ -14,9 +14,13 @@ use Rattle.fixed.proofs.Parts.{order, P-neg, N-neg}
 use Rattle.fixed.specs.Fixed.{held, within}
 use Rattle.fixed.proofs.HeldLaws.{held-inside, within-lo, within-hi}
 use Rattle.text.specs.Grammar.{isDigit, allDigits, valueOf, digitsOf, signed, least, greatest, fitting, numberOf}
-use Rattle.text.specs.Automaton.{wordStart, digitNext, otherNext, wordNext, wordAfter, wordSigned, wordOk, wordValue, wordNumber}
+use Rattle.text.specs.Automaton.{wordStart, digitNext, otherNext, wordNext, wordAfter, wordSigned, wordOk, wordValue}
 use Rattle.text.specs.declared.Word.{Word}
 use Rattle.text.proofs.Choice.{true-or-false, less-or-not}
+
+-- what a word is
+pub wordNumber : Word → Option ℤ
+wordNumber w = cond (wordOk w) (some (wordValue w)) none
 
 -- ════ one byte
 pub cond-true : {A : Type 0} {t : Bool} (x y : A) → t ≡ true → cond t x y ≡ x

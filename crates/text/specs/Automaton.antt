@@ -2,7 +2,6 @@
 use Prim.Native.Nat.{ℕ, _+_, _-_, _*_, min}
 use mathlib.Core.Bool.{Bool, true, false, cond, not, _&&_, _||_}
 use mathlib.Core.List.{List, [], _∷_}
-use mathlib.Core.Option.{Option, none, some}
 use lib.Dec.{eqb, ltb}
 use lib.IntN.{ℤ}
 use lib.ListN.{length, set}
@@ -42,10 +41,6 @@ wordOk w = w .digits && not (w .bad) && within least greatest (wordSigned w)
 
 unfoldable pub wordValue : Word → ℤ
 wordValue w = held (wordSigned w) least greatest
-
--- what the word is
-unfoldable pub wordNumber : Word → Option ℤ
-wordNumber w = cond (wordOk w) (some (wordValue w)) none
 
 -- ════ a line
 unfoldable pub lineStart : Line

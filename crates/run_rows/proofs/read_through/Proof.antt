@@ -27,13 +27,6 @@ loop-again c =
     let i = t .before .before .before .before .before .loop .inv in
     (t .turn .kept .1 .0 ∙ i .0, t .turn .kept .1 .1 .1 .0 ∙ i .1, t .turn .ensures .2)
 
--- that all of it fits
-sub-turns : tie.Need-sub-turns Inv-loop μ-loop
-sub-turns c = let l = c .before .before .before .before .before .before .before .before in omega (arith, l .loop-test .taken)
-
-loop-less : tie.Need-loop-less Inv-loop μ-loop
-loop-less c = let l = c .before .before .before .before .before .before .before .before in omega (arith, l .loop-test .taken)
-
 pub read-through-spec : {M : Type 1} → statement M
 read-through-spec =
     tie.close
@@ -42,8 +35,8 @@ read-through-spec =
     μ-loop
     (λ c. (refl, refl, c .before .before .pre .0))
     turn-requires
-    sub-turns
-    loop-less
+    (λ c. let l = c .before .before .before .before .before .before .before .before in omega (arith, l .loop-test .taken))
+    (λ c. let l = c .before .before .before .before .before .before .before .before in omega (arith, l .loop-test .taken))
     loop-again
     (λ c. c .before .before .loop .inv .0)
     (λ c. c .before .before .loop .inv .1)
