@@ -16,7 +16,8 @@ pub struct LineFed {
 // The bytes of a chunk from a place on, up to the line feed that ends the line, or all there are.
 pub fn line_fed(l: Line, chunk: &[u8], from: usize, numbers: &mut [i32]) -> LineFed
     requires { ⌜ from ≤ length (now chunk) ⌝ }
-    ensures { λ r. ⌜ partOf (record { line = l; numbers = now (numbers .entry) }) (drop from (now (chunk .entry))) ≡ record { reading = record { line = r .line; numbers = now (numbers .exit) }; ended = r .ended; behind = drop (r .place) (now (chunk .entry)) } ⌝ }
+    ensures { λ r. ⌜ partOf (record { line = l; numbers = now (numbers .entry) }) (drop from (now (chunk .entry)))
+        ≡ record { reading = record { line = r .line; numbers = now (numbers .exit) }; ended = r .ended; behind = drop (r .place) (now (chunk .entry)) } ⌝ }
     ensures { λ r. ⌜ (r .place ≤ length (now (chunk .entry))) × (from < length (now (chunk .entry)) → from < r .place) ⌝ }
 {
     let mut line = l;

@@ -311,7 +311,8 @@ fn fed(s: Calls, chunk: &[u8], out: &mut [u8], at: usize) -> Passed
 // What is written last: that a line is bad, where one is no call or has no line feed.
 fn ended(s: Calls, out: &mut [u8]) -> usize
     requires { ⌜ 25 ≤ length (now out) ⌝ }
-    ensures { λ r. ⌜ (r ≡ 0 + length (cond (s .begun) (badText (oneMore (s .before))) [])) × (now (out .exit) ≡ written (now (out .entry)) 0 (cond (s .begun) (badText (oneMore (s .before))) [])) × (r ≤ 25) ⌝ }
+    ensures { λ r. ⌜ (r ≡ 0 + length (cond (s .begun) (badText (oneMore (s .before))) []))
+        × (now (out .exit) ≡ written (now (out .entry)) 0 (cond (s .begun) (badText (oneMore (s .before))) [])) × (r ≤ 25) ⌝ }
 {
     if s.begun {
         return text::put_bad(feeding::next(s.before), out, 0);

@@ -22,7 +22,9 @@ pub struct Turned {
 // A chunk is read and fed, and what it is answered is sent: 48 bytes for a byte at most.
 fn turn(s: Stream, bytes: &mut [u8], table: &sine::Table, out: &mut [u8]) -> Turned
     requires { ⌜ (soundOf (s .tally .drive) ≡ true) × (now table ≡ sineTable) × (48 * length (now bytes) ≤ length (now out)) ⌝ }
-    ensures { λ r. ⌜ (asFed (r .stream) ≡ rowsFed (asFed s) (take (r .size) (now (bytes .exit)))) × (now (out .exit) ≡ written (now (out .entry)) 0 (rowsText (asFed s) (take (r .size) (now (bytes .exit))))) × (soundOf (r .stream .tally .drive) ≡ true) ⌝ }
+    ensures { λ r. ⌜ (asFed (r .stream) ≡ rowsFed (asFed s) (take (r .size) (now (bytes .exit))))
+        × (now (out .exit) ≡ written (now (out .entry)) 0 (rowsText (asFed s) (take (r .size) (now (bytes .exit)))))
+        × (soundOf (r .stream .tally .drive) ≡ true) ⌝ }
 {
     let got = pipes::receive(bytes);
     let size = got.size;

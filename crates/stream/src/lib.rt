@@ -59,7 +59,8 @@ fn is_row(l: Line) -> bool
 // A row is one step, and its answer is a line.
 fn row_told(t: Tally, row: [i32; 3], table: &sine::Table, out: &mut [u8], at: usize) -> Told
     requires { ⌜ (soundOf (t .drive) ≡ true) × (now table ≡ sineTable) × (at + 48 ≤ length (now out)) ⌝ }
-    ensures { λ r. ⌜ (r .tally ≡ tallyOf t row) × (r .place ≡ at + length (answerText t row)) × (now (out .exit) ≡ written (now (out .entry)) at (answerText t row)) × (r .place ≤ at + 48) ⌝ }
+    ensures { λ r. ⌜ (r .tally ≡ tallyOf t row) × (r .place ≡ at + length (answerText t row))
+        × (now (out .exit) ≡ written (now (out .entry)) at (answerText t row)) × (r .place ≤ at + 48) ⌝ }
 {
     let s = drive::take(t.drive, row[0], row[1], row[2], table);
     let answer = [s.pulses.a, s.pulses.b, s.pulses.c, s.number];
@@ -107,7 +108,9 @@ pub fn start(d: Drive) -> Stream
 pub fn fed(s: Stream, chunk: &[u8], table: &sine::Table, out: &mut [u8], at: usize) -> Passed
     requires { ⌜ (soundOf (s .tally .drive) ≡ true) × (now table ≡ sineTable) × (at + 48 * length (now chunk) ≤ length (now out)) ⌝ }
     ensures { λ r. ⌜ (asFed (r .stream) ≡ rowsFed (asFed s) (now (chunk .entry))) × (soundOf (r .stream .tally .drive) ≡ true) ⌝ }
-    ensures { λ r. ⌜ (r .place ≡ at + length (rowsText (asFed s) (now (chunk .entry)))) × (now (out .exit) ≡ written (now (out .entry)) at (rowsText (asFed s) (now (chunk .entry)))) × (r .place ≤ at + 48 * length (now (chunk .entry))) ⌝ }
+    ensures { λ r. ⌜ (r .place ≡ at + length (rowsText (asFed s) (now (chunk .entry))))
+        × (now (out .exit) ≡ written (now (out .entry)) at (rowsText (asFed s) (now (chunk .entry))))
+        × (r .place ≤ at + 48 * length (now (chunk .entry))) ⌝ }
 {
     let mut tally = s.tally;
     let mut line = s.line;
@@ -145,7 +148,8 @@ pub fn fed(s: Stream, chunk: &[u8], table: &sine::Table, out: &mut [u8], at: usi
 
 fn put_totals(accepted: u64, clipped: u64, out: &mut [u8], at: usize) -> usize
     requires { ⌜ at + 56 ≤ length (now out) ⌝ }
-    ensures { λ r. ⌜ (r ≡ at + length (totalsText accepted clipped)) × (now (out .exit) ≡ written (now (out .entry)) at (totalsText accepted clipped)) × (r ≤ at + 56) ⌝ }
+    ensures { λ r. ⌜ (r ≡ at + length (totalsText accepted clipped)) × (now (out .exit) ≡ written (now (out .entry)) at (totalsText accepted clipped))
+        × (r ≤ at + 56) ⌝ }
 {
     let a = text::put_text(b"steps ", out, at);
     let b = text::put_count(accepted, out, a);
