@@ -53,7 +53,8 @@ module _ {T : Type 0} (fits : List ℤ → Bool) (after : T → List ℤ → T) 
   partFed : T → Part → Fed T
   partFed t p = cond (p .ended) (endFed fits after t (p .reading)) (partAt t p)
 
-  part-fed : (s : Fed T) (b : ℕ) (bs : List ℕ) → s .stopped ≡ false → fedOf fits after s (b ∷ bs) ≡ fedOf fits after (partFed (s .kept) (partOf (s .reading) (b ∷ bs))) (partOf (s .reading) (b ∷ bs) .behind)
+  part-fed : (s : Fed T) (b : ℕ) (bs : List ℕ) → s .stopped ≡ false →
+      fedOf fits after s (b ∷ bs) ≡ fedOf fits after (partFed (s .kept) (partOf (s .reading) (b ∷ bs))) (partOf (s .reading) (b ∷ bs) .behind)
   unfolding fedOf partOf partFed
   part-fed s b [] h =
       ⊎-elim (λ e. rw (byte-end s b h e, e) refl) (λ e. rw (byte-on s b h e, e) refl) (true-or-false (eqb b 10))
@@ -84,7 +85,8 @@ module _ {T : Type 0} (fits : List ℤ → Bool) (after : T → List ℤ → T) 
   pub upto-start : (s : Fed T) (chunk : List ℕ) → Upto s chunk s 0
   upto-start s chunk = record { low = omega arith; wide = refl; same = refl }
 
-  fed-ahead : (cur : Fed T) (chunk : List ℕ) (i : ℕ) (p : Part) → i < length chunk → cur .stopped ≡ false → partOf (cur .reading) (drop i chunk) ≡ p → fedOf fits after cur (drop i chunk) ≡ fedOf fits after (partFed (cur .kept) p) (p .behind)
+  fed-ahead : (cur : Fed T) (chunk : List ℕ) (i : ℕ) (p : Part) → i < length chunk → cur .stopped ≡ false → partOf (cur .reading) (drop i chunk) ≡ p →
+      fedOf fits after cur (drop i chunk) ≡ fedOf fits after (partFed (cur .kept) p) (p .behind)
   fed-ahead cur chunk i p h g e = rw (← e, drop-cons chunk i 0 h) (part-fed cur (getD chunk i 0) (drop (suc i) chunk) g)
 
   -- the bytes from i up to j made p of the line
@@ -174,9 +176,11 @@ module _ {T : Type 0} (fits : List ℤ → Bool) (after : T → List ℤ → T) 
   pub wrote-start : {m : ℕ} (s : Fed T) (chunk : List ℕ) (at : ℕ) (o : List ℕ) → at + m * length chunk ≤ length o → Wrote m s chunk at o o s at 0
   wrote-start s chunk at o r = record { room = r; near = omega arith; long = refl; text = []; all-text = refl; stands = put-none }
 
-  module _ {m : ℕ} {s : Fed T} {chunk : List ℕ} {at : ℕ} {o out : List ℕ} {cur : Fed T} {place i j : ℕ} {p : Part} (w : Wrote m s chunk at o out cur place i) (h : i < length chunk) (g : cur .stopped ≡ false)
+  module _ {m : ℕ} {s : Fed T} {chunk : List ℕ} {at : ℕ} {o out : List ℕ} {cur : Fed T} {place i j : ℕ} {p : Part}
+      (w : Wrote m s chunk at o out cur place i) (h : i < length chunk) (g : cur .stopped ≡ false)
       (k : i < j) (l : j ≤ length chunk) (e : partOf (cur .reading) (drop i chunk) ≡ p) (d : drop j chunk ≡ p .behind) where
-    wrote-part : {n : Fed T} {x next : List ℕ} {end : ℕ} → partFed fits after (cur .kept) p ≡ n → partText (cur .kept) p ≡ x → Put out place x next end → end ≤ place + m → Wrote m s chunk at o next n end j
+    wrote-part : {n : Fed T} {x next : List ℕ} {end : ℕ} → partFed fits after (cur .kept) p ≡ n → partText (cur .kept) p ≡ x →
+        Put out place x next end → end ≤ place + m → Wrote m s chunk at o next n end j
     wrote-part {n} {x} {next} {end} f t y q =
         let a = far m i j k in
         let r : place + length x ≤ length out = omega (arith, w .near, w .room, w .long, q, y .next, a, mul-le-mul-left m l) in

@@ -41,7 +41,8 @@ pub front-call : (ns : List ℤ) (n : ℕ) → n ≤ length ns → isCall (take 
 unfolding isCall callBy
 front-call ns n l =
     let of : (k : ℤ) (c : ℕ) → 31 ≤ c → eqb n c && (call (take n ns) k && flags (take n ns)) ≡ eqb n c && (call ns k && flags ns) =
-    λ k c m. asked ns n c (λ (x : List ℤ). call x k && flags x) (rw (getD-take c ns 0 (pos 0) (omega (arith, m)), getD-take c ns 17 (pos 0) (omega (arith, m)), getD-take c ns 30 (pos 0) (omega (arith, m))) refl) in
+    λ k c m. asked ns n c (λ (x : List ℤ). call x k && flags x)
+    (rw (getD-take c ns 0 (pos 0) (omega (arith, m)), getD-take c ns 17 (pos 0) (omega (arith, m)), getD-take c ns 30 (pos 0) (omega (arith, m))) refl) in
     let made = asked ns n 16 (λ (x : List ℤ). call x (pos 0)) (rw (getD-take 16 ns 0 (pos 0) (omega arith)) refl) in
     rw (length-take-le n ns l, made, of (pos 1) 34 (omega arith), of (pos 2) 32 (omega arith), of (pos 3) 31 (omega arith)) refl
 
@@ -66,5 +67,6 @@ module _ {s : Calls} {chunk : List ℕ} {cur : Calls} {i j : ℕ} {l : Line} {ns
 
 -- ════ by the grammar: how many calls there are before a bad line, and whether one ends them
 pub calls : (input : List ℕ) →
-    (fedOf isCall counted (between 0 (replicate 34 (pos 0))) input .kept ≡ afterAll counted 0 (goodLines isCall input)) × (fedOf isCall counted (between 0 (replicate 34 (pos 0))) input .begun ≡ endsBad isCall input)
+    (fedOf isCall counted (between 0 (replicate 34 (pos 0))) input .kept ≡ afterAll counted 0 (goodLines isCall input))
+    × (fedOf isCall counted (between 0 (replicate 34 (pos 0))) input .begun ≡ endsBad isCall input)
 calls input = let c = comes isCall counted (λ (n : ℕ) (ns : List ℤ). []) 0 (replicate 34 (pos 0)) input room in (c .keeps, c .ends)

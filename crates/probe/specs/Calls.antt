@@ -20,7 +20,8 @@ call ns k = within k k (getD ns 0 (pos 0))
 
 unfoldable pub callBy : List ℤ → ℕ → Bool
 callBy ns n =
-    (eqb n 16 && call ns (pos 0)) || (eqb n 34 && (call ns (pos 1) && flags ns)) || (eqb n 32 && (call ns (pos 2) && flags ns)) || (eqb n 31 && (call ns (pos 3) && flags ns))
+    (eqb n 16 && call ns (pos 0)) || (eqb n 34 && (call ns (pos 1) && flags ns))
+    || (eqb n 32 && (call ns (pos 2) && flags ns)) || (eqb n 31 && (call ns (pos 3) && flags ns))
 
 unfoldable pub isCall : List ℤ → Bool
 isCall ns = callBy ns (length ns)

@@ -95,7 +95,8 @@ with-more t row r m =
     let a : plus (t .rows) (1 + m) ≡ plus (oneMore (t .rows)) m = omega arith in
     rw (a, plus-if (isAccepted (stepOf t row)) (t .accepted) (r .accepted), plus-if (isClipped (stepOf t row)) (t .clipped) (r .clipped)) refl
 
-one-ran : (t : Tally) (row : List ℤ) → (ranOf (t .drive) row 1 ≡ afterRow (noRows (t .drive) (pos 0)) (stepOf t row)) × (ranOf (t .drive) row 1 .drive ≡ tallyOf t row .drive) × (writtenOf (t .drive) row 1 ≡ four (stepOf t row))
+one-ran : (t : Tally) (row : List ℤ) →
+    (ranOf (t .drive) row 1 ≡ afterRow (noRows (t .drive) (pos 0)) (stepOf t row)) × (ranOf (t .drive) row 1 .drive ≡ tallyOf t row .drive) × (writtenOf (t .drive) row 1 ≡ four (stepOf t row))
 unfolding ranOf writtenOf noRows afterRow tallyOf
 one-ran t row = (refl, refl, refl)
 
@@ -126,7 +127,8 @@ rows-run t nil h = rw (ran-none (t .drive)) (with-none t h)
 rows-run t (cons {row} {rows} l k) h =
     let n = length rows in
     rows-run (tallyOf t row) k (held-more t row h)
-    ∙ sym (ap (λ (j : ℕ). withRun t (ranOf (t .drive) (row ++ joined rows) j) j) (first n) ∙ ap (λ (q : Ran). withRun t q (1 + n)) (ran-more t row rows l) ∙ with-more t row (ranOf (tallyOf t row .drive) (joined rows) n) n)
+    ∙ sym (ap (λ (j : ℕ). withRun t (ranOf (t .drive) (row ++ joined rows) j) j) (first n) ∙ ap (λ (q : Ran). withRun t q (1 + n)) (ran-more t row rows l)
+    ∙ with-more t row (ranOf (tallyOf t row .drive) (joined rows) n) n)
 
 written-0 : (d : Drive) → foursText (writtenOf d [] 0) ≡ []
 unfolding writtenOf foursText
@@ -168,7 +170,8 @@ one-run d input b =
     r .1 ∙ ap₂ (λ (j : ℕ) (l : List ℤ). writtenOf d samples j ++ l) e (drop-of-length-le out {i = 4 * rowsIn samples} (omega (arith, e, o))) ∙ append-nil (writtenOf d samples n) in
     let q : runOf d samples out ≡ ranOf d samples n = r .0 ∙ ap (ranOf d samples) e in
     let h = rows-run (tallyStart d) k (record { rows = omega arith; accepted = omega arith; clipped = omega arith }) in
-    ap₂ (λ (x : List ℕ) (y : Tally). headerText ++ (x ++ closingText (endsBad isRow input) y)) (rows-written (tallyStart d) k ∙ ap foursText (sym w)) (h ∙ with-first d (ranOf d samples n) n ∙ sym (ap₂ ranTally q e))
+    ap₂ (λ (x : List ℕ) (y : Tally). headerText ++ (x ++ closingText (endsBad isRow input) y)) (rows-written (tallyStart d) k ∙ ap foursText (sym w))
+    (h ∙ with-first d (ranOf d samples n) n ∙ sym (ap₂ ranTally q e))
 
 -- ════ the counts are exact
 ran-few : (d : Drive) (samples : List ℤ) (n : ℕ) → (ranOf d samples n .accepted ≤ n) × (ranOf d samples n .clipped ≤ n)

@@ -47,4 +47,6 @@ pub unread : (d : Drive) (xs ys : List ℕ) → rowsFed (streamStart d) xs .stop
 unread d xs ys h =
     let s = streamStart d in
     let n = rowsFed s xs in
-    rw (← program-onward d (xs ++ ys), ← program-onward d xs, text-in-pieces isRow tallyOf answerText s xs ys, fed-in-pieces isRow tallyOf s xs ys, fed-stopped isRow tallyOf n ys h, text-stopped isRow tallyOf answerText n ys h, append-nil) refl
+    let e = text-in-pieces isRow tallyOf answerText s xs ys in
+    let f = fed-in-pieces isRow tallyOf s xs ys in
+    rw (← program-onward d (xs ++ ys), ← program-onward d xs, e, f, fed-stopped isRow tallyOf n ys h, text-stopped isRow tallyOf answerText n ys h, append-nil) refl

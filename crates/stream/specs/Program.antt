@@ -59,7 +59,8 @@ closingText bad t = cond bad (badText (oneMore (t .rows))) [] ++ totalsText (t .
 unfoldable pub programText : Drive → List ℕ → List ℕ
 programText d input =
     headerText
-    ++ (answersTo tallyOf answerText (tallyStart d) (goodLines isRow input) ++ closingText (endsBad isRow input) (afterAll tallyOf (tallyStart d) (goodLines isRow input)))
+    ++ (answersTo tallyOf answerText (tallyStart d) (goodLines isRow input)
+    ++ closingText (endsBad isRow input) (afterAll tallyOf (tallyStart d) (goodLines isRow input)))
 
 -- ════ the same by one run of all the rows
 -- numbers in fours, a line each
