@@ -13,7 +13,7 @@ use Rattle.text.specs.Grammar.{lineOf}
 use Rattle.text.specs.Automaton.{Reading, lineRead}
 use Rattle.text.proofs.Lines.{Taken, accepted, refused, too-many, first-numbers}
 use Rattle.text.proofs.Choice.{less-or-not, true-or-false}
-use Rattle.feeding.specs.Lines.{fitting, goodIn}
+use Rattle.feeding.specs.Lines.{ifFits, goodIn}
 use Rattle.feeding.specs.Feeding.{front, isGood}
 
 -- there is room among n numbers for all that fit
@@ -29,19 +29,19 @@ module _ (fits : List ℤ → Bool) where
   unfolding isGood
   told-bad r e = rw e refl
 
-  told-taken : (ns zs : List ℤ) (r : Reading) → Taken ns zs r → told r ≡ fitting fits (some zs)
-  unfolding isGood fitting
+  told-taken : (ns zs : List ℤ) (r : Reading) → Taken ns zs r → told r ≡ ifFits fits (some zs)
+  unfolding isGood ifFits
   told-taken ns zs r t = rw (t .good, first-numbers t) refl
 
-  told-long : (zs : List ℤ) (n : ℕ) → Room fits n → n < length zs → fitting fits (some zs) ≡ none
-  unfolding fitting
+  told-long : (zs : List ℤ) (n : ℕ) → Room fits n → n < length zs → ifFits fits (some zs) ≡ none
+  unfolding ifFits
   told-long zs n room h = ⊎-elim (λ e. absurd (omega (arith, room zs e, h))) (λ e. rw e refl) (true-or-false (fits zs))
 
   pub line-told : (bs : List ℕ) (ns : List ℤ) → Room fits (length ns) → told (lineRead ns bs) ≡ goodIn fits bs
-  unfolding goodIn fitting
+  unfolding goodIn ifFits
   line-told bs ns room = by (lineOf bs) refl
     where
-      by : (o : Option (List ℤ)) → lineOf bs ≡ o → told (lineRead ns bs) ≡ fitting fits o
+      by : (o : Option (List ℤ)) → lineOf bs ≡ o → told (lineRead ns bs) ≡ ifFits fits o
       by none e = told-bad (lineRead ns bs) (refused bs ns e)
       by (some zs) e =
           ⊎-elim

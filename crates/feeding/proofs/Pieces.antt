@@ -6,14 +6,14 @@ use mathlib.Core.List.{List, [], _∷_, _++_, append-assoc}
 use Prim.Native.Nat.{ℕ}
 use lib.IntN.{ℤ}
 use Rattle.text.specs.Automaton.{Reading}
-use Rattle.feeding.specs.Feeding.{Fed, between, front, isGood, endFed, endText, byteFed, byteText, fedOf, textOf}
+use Rattle.feeding.specs.Feeding.{Fed, lineDue, front, isGood, endFed, endText, byteFed, byteText, fedOf, textOf}
 
 -- once a bad line came
 abbrev pub stoppedAt : {T : Type 0} → T → Reading → Fed T
 stoppedAt t r = record { kept = t; reading = r; begun = true; stopped = true }
 
 module _ {T : Type 0} (fits : List ℤ → Bool) (after : T → List ℤ → T) where
-  pub end-good : (t : T) (r : Reading) → isGood fits r ≡ true → endFed fits after t r ≡ between (after t (front r)) (r .numbers)
+  pub end-good : (t : T) (r : Reading) → isGood fits r ≡ true → endFed fits after t r ≡ lineDue (after t (front r)) (r .numbers)
   unfolding endFed
   end-good t r e = rw e refl
 

@@ -17,7 +17,7 @@ use Rattle.text.specs.Decimal.{written}
 use Rattle.text.proofs.Choice.{true-or-false}
 use Rattle.text.proofs.Written.{written-none, written-length}
 use Rattle.text.proofs.TextLaws.{Put, put, put-then}
-use Rattle.feeding.specs.Feeding.{Part, partOf, Fed, between, front, isGood, endFed, endText, byteFed, byteText, fedOf, textOf}
+use Rattle.feeding.specs.Feeding.{Part, partOf, Fed, lineDue, front, isGood, endFed, endText, byteFed, byteText, fedOf, textOf}
 use Rattle.feeding.proofs.Parts.{part-length, part-count}
 use Rattle.feeding.proofs.Pieces.{end-good, end-bad, text-good, text-bad, fed-stopped, text-stopped}
 
@@ -64,7 +64,7 @@ module _ {T : Type 0} (fits : List ℤ → Bool) (after : T → List ℤ → T) 
       (λ e. rw (byte-on s b h e, e) (part-fed (record { kept = s .kept; reading = readNext (s .reading) b; begun = true; stopped = false }) c cs refl))
       (true-or-false (eqb b 10))
 
-  part-good : (t : T) (p : Part) → p .ended && isGood fits (p .reading) ≡ true → partFed t p ≡ between (after t (front (p .reading))) (p .reading .numbers)
+  part-good : (t : T) (p : Part) → p .ended && isGood fits (p .reading) ≡ true → partFed t p ≡ lineDue (after t (front (p .reading))) (p .reading .numbers)
   unfolding partFed
   part-good t p g = rw (and-left (p .ended) _ g) (end-good fits after t (p .reading) (and-right (p .ended) _ g))
 
@@ -100,7 +100,7 @@ module _ {T : Type 0} (fits : List ℤ → Bool) (after : T → List ℤ → T) 
     }
 
     -- they end a good line
-    pub upto-good : p .ended && isGood fits (p .reading) ≡ true → Upto s chunk (between (after (cur .kept) (front (p .reading))) (p .reading .numbers)) j
+    pub upto-good : p .ended && isGood fits (p .reading) ≡ true → Upto s chunk (lineDue (after (cur .kept) (front (p .reading))) (p .reading .numbers)) j
     upto-good f = upto-part (part-good (cur .kept) p f) refl
 
     -- they end none, or the line goes on
@@ -197,7 +197,7 @@ module _ {T : Type 0} (fits : List ℤ → Bool) (after : T → List ℤ → T) 
         }
 
     pub wrote-good : {next : List ℕ} {end : ℕ} → p .ended && isGood fits (p .reading) ≡ true → Put out place (answer (cur .kept) (front (p .reading))) next end → end ≤ place + m →
-        Wrote m s chunk at o next (between (after (cur .kept) (front (p .reading))) (p .reading .numbers)) end j
+        Wrote m s chunk at o next (lineDue (after (cur .kept) (front (p .reading))) (p .reading .numbers)) end j
     wrote-good f = wrote-part (part-good fits after (cur .kept) p f) (good-text (cur .kept) p f)
 
     pub wrote-else : p .ended && isGood fits (p .reading) ≡ false → Wrote m s chunk at o out (partAt (cur .kept) p) place j

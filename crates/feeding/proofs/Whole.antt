@@ -13,7 +13,7 @@ use Rattle.text.specs.Automaton.{Reading, readAll, lineRead}
 use Rattle.text.proofs.Lines.{read-more}
 use Rattle.text.proofs.Choice.{true-or-false}
 use Rattle.feeding.specs.Lines.{linesOf, restOf, any, goodIn, goodThen, goodOf, badOr, badOf, goodLines, endsBad, afterAll, answersTo}
-use Rattle.feeding.specs.Feeding.{Fed, lineAt, between, front, isGood, endFed, endText, byteFed, byteText, fedOf, textOf}
+use Rattle.feeding.specs.Feeding.{Fed, lineAt, lineDue, front, isGood, endFed, endText, byteFed, byteText, fedOf, textOf}
 use Rattle.feeding.proofs.Parts.{read-length}
 use Rattle.feeding.proofs.Meaning.{Room, told, line-told}
 use Rattle.feeding.proofs.Pieces.{stoppedAt, end-good, end-bad, text-good, text-bad, fed-stopped, text-stopped}
@@ -48,7 +48,7 @@ module _ {T : Type 0} (fits : List ℤ → Bool) (after : T → List ℤ → T) 
   at-byte t o p b bs e c = rw (byte-on t o p b e, e) c
 
   -- a line has ended: a good one, behind which the others come, or the last that is looked at
-  ended : (t : T) (r : Reading) (p bs : List ℕ) (ws : List (List ℕ)) (w : List ℕ) → told fits r ≡ goodIn fits p → Coming (after t (front r)) (between (after t (front r)) (r .numbers)) bs ws w →
+  ended : (t : T) (r : Reading) (p bs : List ℕ) (ws : List (List ℕ)) (w : List ℕ) → told fits r ≡ goodIn fits p → Coming (after t (front r)) (lineDue (after t (front r)) (r .numbers)) bs ws w →
       Comes t (fedOf fits after (endFed fits after t r) bs) (endText fits answer t r ++ textOf fits after answer (endFed fits after t r) bs) (p ∷ ws) w
   unfolding goodOf goodThen badOf badOr afterAll answersTo
   ended t r p bs ws w l c =
@@ -66,7 +66,7 @@ module _ {T : Type 0} (fits : List ℤ → Bool) (after : T → List ℤ → T) 
       (true-or-false (isGood fits r))
 
   at-feed : (n : ℕ) → Room fits n → (t : T) (o : List ℤ) (p : List ℕ) (b : ℕ) (bs : List ℕ) → length o ≡ n → eqb b 10 ≡ true →
-      ((u : T) (k : List ℤ) → length k ≡ n → Coming u (between u k) bs (linesOf [] bs) (restOf [] bs)) →
+      ((u : T) (k : List ℤ) → length k ≡ n → Coming u (lineDue u k) bs (linesOf [] bs) (restOf [] bs)) →
       Coming t (within t o p) (b ∷ bs) (linesOf p (b ∷ bs)) (restOf p (b ∷ bs))
   unfolding fedOf textOf linesOf restOf byteFed byteText lineRead
   at-feed n room t o p b bs h e k =
@@ -83,6 +83,6 @@ module _ {T : Type 0} (fits : List ℤ → Bool) (after : T → List ℤ → T) 
       (true-or-false (eqb b 10))
 
   -- the whole input, from before its first line
-  pub comes : (t : T) (o : List ℤ) (input : List ℕ) → Room fits (length o) → Coming t (between t o) input (linesOf [] input) (restOf [] input)
+  pub comes : (t : T) (o : List ℤ) (input : List ℕ) → Room fits (length o) → Coming t (lineDue t o) input (linesOf [] input) (restOf [] input)
   unfolding readAll any
   comes t o input room = lines (length o) room t o [] input refl

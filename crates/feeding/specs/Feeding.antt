@@ -30,8 +30,8 @@ pub record Fed (T : Type 0) : Type 0 where
 abbrev pub lineAt : List ℤ → Reading
 lineAt numbers = record { line = lineStart; numbers = numbers }
 
-abbrev pub between : {T : Type 0} → T → List ℤ → Fed T
-between t numbers = record { kept = t; reading = lineAt numbers; begun = false; stopped = false }
+abbrev pub lineDue : {T : Type 0} → T → List ℤ → Fed T
+lineDue t numbers = record { kept = t; reading = lineAt numbers; begun = false; stopped = false }
 
 -- the numbers of a line that has ended, and whether it is good
 abbrev pub front : Reading → List ℤ
@@ -42,7 +42,7 @@ isGood fits r = not (r .line .bad) && fits (front r)
 
 -- a line has ended: as a good one, or as none
 unfoldable pub endFed : {T : Type 0} → (List ℤ → Bool) → (T → List ℤ → T) → T → Reading → Fed T
-endFed fits after t r = cond (isGood fits r) (between (after t (front r)) (r .numbers)) (record { kept = t; reading = r; begun = true; stopped = true })
+endFed fits after t r = cond (isGood fits r) (lineDue (after t (front r)) (r .numbers)) (record { kept = t; reading = r; begun = true; stopped = true })
 
 unfoldable pub endText : {T : Type 0} → (List ℤ → Bool) → (T → List ℤ → List ℕ) → T → Reading → List ℕ
 endText fits answer t r = cond (isGood fits r) (answer t (front r)) []

@@ -25,12 +25,12 @@ any (b ∷ bs) = true
 
 -- ════ the good ones
 -- a line, given without its line feed, is good if it has numbers and they fit: these
-unfoldable pub fitting : (List ℤ → Bool) → Option (List ℤ) → Option (List ℤ)
-fitting fits none = none
-fitting fits (some zs) = cond (fits zs) (some zs) none
+unfoldable pub ifFits : (List ℤ → Bool) → Option (List ℤ) → Option (List ℤ)
+ifFits fits none = none
+ifFits fits (some zs) = cond (fits zs) (some zs) none
 
 unfoldable pub goodIn : (List ℤ → Bool) → List ℕ → Option (List ℤ)
-goodIn fits w = fitting fits (lineOf w)
+goodIn fits w = ifFits fits (lineOf w)
 
 -- the numbers of each line, up to the first that is not good
 unfoldable pub goodThen : Option (List ℤ) → List (List ℤ) → List (List ℤ)

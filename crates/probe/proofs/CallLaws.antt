@@ -16,12 +16,12 @@ use Rattle.text.specs.declared.Line.{Line}
 use Rattle.text.specs.Automaton.{lineStart}
 use Rattle.text.proofs.Choice.{true-or-false, less-or-not}
 use Rattle.feeding.specs.Lines.{goodLines, endsBad, afterAll, oneMore}
-use Rattle.feeding.specs.Feeding.{partOf, Fed, between, isGood, fedOf}
+use Rattle.feeding.specs.Feeding.{partOf, Fed, lineDue, isGood, fedOf}
 use Rattle.feeding.proofs.Meaning.{Room}
 use Rattle.feeding.proofs.Whole.{comes}
 use Rattle.feeding.proofs.Upto.{good-test, Upto, upto-good, upto-else}
 use Rattle.probe.specs.declared.Calls.{Calls}
-use Rattle.probe.specs.Calls.{flags, call, callBy, isCall, counted, asFed}
+use Rattle.probe.specs.Calls.{flags, call, callBy, isCall, callsAfter, asFed}
 
 -- a call has 34 numbers at most
 room : Room isCall 34
@@ -48,25 +48,25 @@ front-call ns n l =
 
 -- ════ the bytes up to the place j went to the line, which is l with the numbers ns after them
 module _ {s : Calls} {chunk : List ℕ} {cur : Calls} {i j : ℕ} {l : Line} {ns : List ℤ} {ended : Bool}
-    (u : Upto isCall counted (asFed s) chunk (asFed cur) i) (h : i < length chunk) (g : cur .stopped ≡ false) (m : j ≤ length chunk)
+    (u : Upto isCall callsAfter (asFed s) chunk (asFed cur) i) (h : i < length chunk) (g : cur .stopped ≡ false) (m : j ≤ length chunk)
     (e : partOf (asFed cur .reading) (drop i chunk) ≡ record { reading = record { line = l; numbers = ns }; ended = ended; behind = drop j chunk }) where
   is-good : ended && isGood isCall (record { line = l; numbers = ns }) ≡ ended && (not (l .bad) && callBy ns (l .count))
   is-good = good-test isCall (asFed cur .reading) (drop i chunk) e (front-call ns (l .count))
 
   -- they end a call
   pub call-taken : {n : ℕ} {start : Line} → ended && (not (l .bad) && callBy ns (l .count)) ≡ true → n ≡ oneMore (cur .before) → start ≡ lineStart →
-      Upto isCall counted (asFed s) chunk (asFed (record { before = n; line = start; numbers = ns; begun = false; stopped = cur .stopped })) j
-  unfolding counted
+      Upto isCall callsAfter (asFed s) chunk (asFed (record { before = n; line = start; numbers = ns; begun = false; stopped = cur .stopped })) j
+  unfolding callsAfter
   call-taken y en es =
-      subst (λ (x : Fed ℕ). Upto isCall counted (asFed s) chunk x j) (rw (en, es, g) refl) (upto-good isCall counted u h g m e refl (is-good ∙ y))
+      subst (λ (x : Fed ℕ). Upto isCall callsAfter (asFed s) chunk x j) (rw (en, es, g) refl) (upto-good isCall callsAfter u h g m e refl (is-good ∙ y))
 
   -- they end none, or the line goes on
   pub none-taken : ended && (not (l .bad) && callBy ns (l .count)) ≡ false →
-      Upto isCall counted (asFed s) chunk (asFed (record { before = cur .before; line = l; numbers = ns; begun = true; stopped = ended })) j
-  none-taken y = upto-else isCall counted u h g m e refl (is-good ∙ y)
+      Upto isCall callsAfter (asFed s) chunk (asFed (record { before = cur .before; line = l; numbers = ns; begun = true; stopped = ended })) j
+  none-taken y = upto-else isCall callsAfter u h g m e refl (is-good ∙ y)
 
 -- ════ by the grammar: how many calls there are before a bad line, and whether one ends them
 pub calls : (input : List ℕ) →
-    (fedOf isCall counted (between 0 (replicate 34 (pos 0))) input .kept ≡ afterAll counted 0 (goodLines isCall input))
-    × (fedOf isCall counted (between 0 (replicate 34 (pos 0))) input .begun ≡ endsBad isCall input)
-calls input = let c = comes isCall counted (λ (n : ℕ) (ns : List ℤ). []) 0 (replicate 34 (pos 0)) input room in (c .keeps, c .ends)
+    (fedOf isCall callsAfter (lineDue 0 (replicate 34 (pos 0))) input .kept ≡ afterAll callsAfter 0 (goodLines isCall input))
+    × (fedOf isCall callsAfter (lineDue 0 (replicate 34 (pos 0))) input .begun ≡ endsBad isCall input)
+calls input = let c = comes isCall callsAfter (λ (n : ℕ) (ns : List ℤ). []) 0 (replicate 34 (pos 0)) input room in (c .keeps, c .ends)

@@ -27,8 +27,8 @@ unfoldable pub isCall : List ℤ → Bool
 isCall ns = callBy ns (length ns)
 
 -- what is kept of the lines is how many there were
-unfoldable pub counted : ℕ → List ℤ → ℕ
-counted n ns = oneMore n
+unfoldable pub callsAfter : ℕ → List ℤ → ℕ
+callsAfter n ns = oneMore n
 
 abbrev pub asFed : Calls → Fed ℕ
 asFed s = record { kept = s .before; reading = record { line = s .line; numbers = s .numbers }; begun = s .begun; stopped = s .stopped }

@@ -8,8 +8,8 @@ ghost use lib.IntN.{pos};
 ghost use lib.ListN.{length, take, replicate};
 ghost use Rattle.text.specs.Decimal.{badText, written};
 ghost use Rattle.feeding.specs.Lines.{oneMore};
-ghost use Rattle.feeding.specs.Feeding.{between, fedOf};
-ghost use Rattle.probe.specs.Calls.{callBy, isCall, counted, asFed};
+ghost use Rattle.feeding.specs.Feeding.{lineDue, fedOf};
+ghost use Rattle.probe.specs.Calls.{callBy, isCall, callsAfter, asFed};
 use drive::Answered;
 use drive::Made;
 use drive::Stepped;
@@ -259,7 +259,7 @@ fn put_answer(n: &[i32; 34], out: &mut [u8], at: usize) -> usize
 }
 
 fn start() -> Calls
-    ensures { λ r. ⌜ asFed r ≡ between 0 (replicate 34 (pos 0)) ⌝ }
+    ensures { λ r. ⌜ asFed r ≡ lineDue 0 (replicate 34 (pos 0)) ⌝ }
 {
     Calls {
         before: 0,
@@ -273,7 +273,7 @@ fn start() -> Calls
 // The bytes of a chunk, whether lines stand whole in it or not. A call is answered by 264 bytes at most.
 fn fed(s: Calls, chunk: &[u8], out: &mut [u8], at: usize) -> Passed
     requires { ⌜ at + 264 * length (now chunk) ≤ length (now out) ⌝ }
-    ensures { λ r. ⌜ (asFed (r .calls) ≡ fedOf isCall counted (asFed s) (now (chunk .entry))) × (r .place ≤ at + 264 * length (now (chunk .entry))) ⌝ }
+    ensures { λ r. ⌜ (asFed (r .calls) ≡ fedOf isCall callsAfter (asFed s) (now (chunk .entry))) × (r .place ≤ at + 264 * length (now (chunk .entry))) ⌝ }
 {
     let mut before = s.before;
     let mut line = s.line;
@@ -332,7 +332,7 @@ pub struct Turned {
 // A chunk is read and fed, and what it is answered is sent.
 fn turn(s: Calls, bytes: &mut [u8], out: &mut [u8]) -> Turned
     requires { ⌜ 264 * length (now bytes) ≤ length (now out) ⌝ }
-    ensures { λ r. ⌜ asFed (r .calls) ≡ fedOf isCall counted (asFed s) (take (r .size) (now (bytes .exit))) ⌝ }
+    ensures { λ r. ⌜ asFed (r .calls) ≡ fedOf isCall callsAfter (asFed s) (take (r .size) (now (bytes .exit))) ⌝ }
 {
     let got = pipes::receive(bytes);
     let size = got.size;

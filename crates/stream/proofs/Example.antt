@@ -19,9 +19,9 @@ use Rattle.record.specs.Record.{periodOk, gainOk, gainsOk, tied, gainsTied, lim
 use Rattle.drive.specs.Step.{speedGains, currentGains, speedRegulated, currentRegulated, rampedBy, withTorque, withShaft, withSpeed, withCommand, commanded, turned, currents, fieldAfter, dRegulated, qRegulated, voltageOf, voltageFor, withField, advanced, driven, pulsed, outcome}
 use Rattle.drive.specs.Calls.{fresh, sampleOk, tripped, refused, taken, stepped}
 use Rattle.rows.specs.Rows.{rowStepped, four, isAccepted, isClipped}
-use Rattle.text.specs.Grammar.{allDigits, valueOf, digitsOf, fitting as fittingNumber, numberOf as numberRead, cut, both, numbersOf, lineOf}
+use Rattle.text.specs.Grammar.{allDigits, valueOf, digitsOf, fitting, numberOf as numberRead, cut, both, numbersOf, lineOf}
 use Rattle.text.specs.Decimal.{decimal, countText, textOf, moreText, numbersText, lineText}
-use Rattle.feeding.specs.Lines.{linesOf, restOf, any, fitting, goodIn, goodThen, goodOf, badOr, badOf, goodLines, endsBad, afterAll, answersTo}
+use Rattle.feeding.specs.Lines.{linesOf, restOf, any, ifFits, goodIn, goodThen, goodOf, badOr, badOf, goodLines, endsBad, afterAll, answersTo}
 use Rattle.feeding.specs.Feeding.{joined}
 use Rattle.stream.specs.declared.Tally.{Tally}
 use Rattle.stream.specs.Program.{isRow, tallyStart, tallyOf, answerText, headerText, totalsText, closingText, programText}
@@ -93,11 +93,11 @@ unfolding linesOf restOf
 cut-lines = (refl, refl)
 
 still-read : goodIn isRow zeros ≡ some still
-unfolding goodIn fitting isRow lineOf numbersOf numberRead both cut fittingNumber digitsOf allDigits valueOf
+unfolding goodIn ifFits isRow lineOf numbersOf numberRead both cut fitting digitsOf allDigits valueOf
 still-read = refl
 
 wild-read : goodIn isRow nines ≡ some wild
-unfolding goodIn fitting isRow lineOf numbersOf numberRead both cut fittingNumber digitsOf allDigits valueOf
+unfolding goodIn ifFits isRow lineOf numbersOf numberRead both cut fitting digitsOf allDigits valueOf
 wild-read = refl
 
 rows-read : (goodLines isRow input ≡ still ∷ wild ∷ still ∷ []) × (endsBad isRow input ≡ false)

@@ -18,7 +18,7 @@ use Rattle.text.specs.declared.Line.{Line}
 use Rattle.text.specs.Automaton.{lineStart}
 use Rattle.text.specs.Decimal.{written}
 use Rattle.text.proofs.TextLaws.{put}
-use Rattle.feeding.specs.Feeding.{Part, partOf, Fed, between, isGood}
+use Rattle.feeding.specs.Feeding.{Part, partOf, Fed, lineDue, isGood}
 use Rattle.feeding.proofs.Parts.{part-length}
 use Rattle.feeding.proofs.Upto.{good-test, Upto, upto-start, upto-good, upto-else, upto-past, upto-stopped, Wrote, wrote-start, wrote-good, wrote-else, wrote-past, wrote-stopped}
 use Rattle.stream.specs.declared.Stream.{Stream}
@@ -61,7 +61,7 @@ module _ {s : Stream} {chunk : List ℕ} {at : ℕ} {o out : List ℕ} {cur : St
       let b = is-good ∙ y in
       let c = eqb-true (l .count) 3 (and-right (not (l .bad)) _ (and-right ended _ y)) in
       let n : take (l .count) ns ≡ ns = take-all (l .count) ns (omega (arith, part-wide, c)) in
-      let f : between (tallyOf (cur .tally) (take (l .count) ns)) ns ≡ asFed (record { tally = t; line = start; row = ns; begun = false; stopped = cur .stopped }) = rw (n, et, es, g) refl in
+      let f : lineDue (tallyOf (cur .tally) (take (l .count) ns)) ns ≡ asFed (record { tally = t; line = start; row = ns; begun = false; stopped = cur .stopped }) = rw (n, et, es, g) refl in
       record {
         is-sound = rw et (row-sound (cur .tally .drive) ns 0 (u .is-sound));
         wide = part-wide;

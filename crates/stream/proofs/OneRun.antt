@@ -23,18 +23,18 @@ use Rattle.rows.proofs.Outcomes.{run-0}
 use Rattle.rows.proofs.Pieces.{joined as joinedRuns, ran-in-pieces, written-in-pieces}
 use Rattle.text.specs.Grammar.{lineOf}
 use Rattle.text.specs.Decimal.{lineText}
-use Rattle.feeding.specs.Lines.{linesOf, fitting, goodIn, goodThen, goodOf, goodLines, endsBad, afterAll, answersTo, oneMore}
+use Rattle.feeding.specs.Lines.{linesOf, ifFits, goodIn, goodThen, goodOf, goodLines, endsBad, afterAll, answersTo, oneMore}
 use Rattle.feeding.specs.Feeding.{joined}
 use Rattle.stream.specs.declared.Tally.{Tally}
-use Rattle.stream.specs.Program.{isRow, tallyStart, stepOf, tallyOf, answerText, headerText, closingText, programText, foursText, held, ranTally, runText}
+use Rattle.stream.specs.Program.{isRow, tallyStart, stepOf, tallyOf, answerText, headerText, closingText, programText, foursText, heldCount, ranTally, runText}
 
 -- ════ rows of three numbers each
 pub data Threes : List (List ℤ) → Type 0 where
   nil : Threes []
   cons : {row : List ℤ} {rows : List (List ℤ)} → length row ≡ 3 → Threes rows → Threes (row ∷ rows)
 
-then-threes : (o : Option (List ℤ)) (rows : List (List ℤ)) → Threes rows → Threes (goodThen (fitting isRow o) rows)
-unfolding goodThen fitting isRow
+then-threes : (o : Option (List ℤ)) (rows : List (List ℤ)) → Threes rows → Threes (goodThen (ifFits isRow o) rows)
+unfolding goodThen ifFits isRow
 then-threes none rows h = nil
 then-threes (some zs) rows h = by (eqb (length zs) 3) refl
   where
@@ -55,7 +55,7 @@ threes-long (cons {row} {rows} l h) = length-append row (joined rows) ∙ omega 
 -- ════ a run behind others
 -- a count and more, held
 abbrev plus : ℕ → ℕ → ℕ
-plus n more = held (n + more)
+plus n more = heldCount (n + more)
 
 abbrev withRun : Tally → Ran → ℕ → Tally
 withRun t r n =
@@ -205,7 +205,7 @@ lines-few p (b ∷ bs) = by (eqb b 10) (lines-few [] bs) (lines-few (p ++ (b ∷
 pub counts-exact : (d : Drive) (input : List ℕ) → length input < 18446744073709551615 →
     let rows = goodLines isRow input in
     let ran = ranOf d (joined rows) (length rows) in
-    (held (length rows) ≡ length rows) × (oneMore (length rows) ≡ length rows + 1) × (held (ran .accepted) ≡ ran .accepted) × (held (ran .clipped) ≡ ran .clipped)
+    (heldCount (length rows) ≡ length rows) × (oneMore (length rows) ≡ length rows + 1) × (heldCount (ran .accepted) ≡ ran .accepted) × (heldCount (ran .clipped) ≡ ran .clipped)
 counts-exact d input h =
     let rows = goodLines isRow input in
     let f = ran-few d (joined rows) (length rows) in

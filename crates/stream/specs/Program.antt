@@ -72,11 +72,11 @@ foursText (a ∷ b ∷ c ∷ []) = []
 foursText (a ∷ b ∷ c ∷ n ∷ more) = lineText (a ∷ b ∷ c ∷ n ∷ []) ++ foursText more
 
 -- what a run of n rows leaves; counts are held at the end of 64 bits, which no input reaches
-abbrev pub held : ℕ → ℕ
-held n = min n 18446744073709551615
+abbrev pub heldCount : ℕ → ℕ
+heldCount n = min n 18446744073709551615
 
 abbrev pub ranTally : Ran → ℕ → Tally
-ranTally r n = record { drive = r .drive; rows = held n; accepted = held (r .accepted); clipped = held (r .clipped) }
+ranTally r n = record { drive = r .drive; rows = heldCount n; accepted = heldCount (r .accepted); clipped = heldCount (r .clipped) }
 
 -- its output, over zeros of which there are as many as it writes, and where it ends
 abbrev pub runText : Drive → List ℤ → Bool → List ℕ

@@ -3,7 +3,7 @@ use Prim.Native.Nat.{ℕ}
 use mathlib.Core.List.{List, [], _∷_, _++_}
 use lib.IntN.{pos}
 use Rattle.record.specs.declared.Drive.{Drive}
-use Rattle.feeding.specs.Feeding.{Fed, between, fedOf, textOf}
+use Rattle.feeding.specs.Feeding.{Fed, lineDue, fedOf, textOf}
 use Rattle.stream.specs.declared.Tally.{Tally}
 use Rattle.stream.specs.declared.Stream.{Stream}
 use Rattle.stream.specs.Program.{isRow, tallyStart, tallyOf, answerText, closingText}
@@ -14,7 +14,7 @@ asFed s = record { kept = s .tally; reading = record { line = s .line; numbers =
 
 -- nothing is read yet
 abbrev pub streamStart : Drive → Fed Tally
-streamStart d = between (tallyStart d) (pos 0 ∷ pos 0 ∷ pos 0 ∷ [])
+streamStart d = lineDue (tallyStart d) (pos 0 ∷ pos 0 ∷ pos 0 ∷ [])
 
 -- what a chunk makes of it, and what is written of the chunk
 abbrev pub rowsFed : Fed Tally → List ℕ → Fed Tally

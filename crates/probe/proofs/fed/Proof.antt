@@ -9,14 +9,14 @@ use native.Mathlib.Omega.{arith}
 use lib.ListN.{length}
 use denote.Ref.{now}
 use Rattle.feeding.proofs.Upto.{Upto, upto-start, upto-past, upto-stopped}
-use Rattle.probe.specs.Calls.{isCall, counted, asFed}
+use Rattle.probe.specs.Calls.{isCall, callsAfter, asFed}
 use Rattle.probe.proofs.CallLaws.{call-taken, none-taken}
 use Rattle.probe.proofs.fed.Statement.{statement}
 use Rattle.probe.proofs.fed.Tie as tie
 
 abbrev Inv-loop : tie.InvT-loop
 Inv-loop chunk out₀ at before₀ line₀ numbers₀ begun₀ stopped₀ place₀ i₀ out before line numbers begun stopped place i =
-    Upto isCall counted (asFed (record { before = before₀; line = line₀; numbers = numbers₀; begun = begun₀; stopped = stopped₀ })) chunk
+    Upto isCall callsAfter (asFed (record { before = before₀; line = line₀; numbers = numbers₀; begun = begun₀; stopped = stopped₀ })) chunk
     (asFed (record { before = before; line = line; numbers = numbers; begun = begun; stopped = stopped })) i
     × (length numbers₀ ≡ 34)
     × (place ≤ at + 264 * i)
@@ -30,7 +30,7 @@ abbrev μ-loop : tie.MeasureT-loop
 loop-holds : tie.Need-loop-holds Inv-loop μ-loop
 loop-holds c =
     let s = c .before .before .before .before in
-    (upto-start isCall counted (asFed (s .args .s)) (now (s .args .chunk)), length-unmapped _ (s .args .s .numbers) 34 (s .good .0 .1 .1 .1 .1 .0 .1 .0 .1), omega arith, refl)
+    (upto-start isCall callsAfter (asFed (s .args .s)) (now (s .args .chunk)), length-unmapped _ (s .args .s .numbers) 34 (s .good .0 .1 .1 .1 .1 .0 .1 .0 .1), omega arith, refl)
 
 put-answer-requires : tie.Need-put-answer-requires Inv-loop μ-loop
 put-answer-requires c κs =
@@ -79,12 +79,12 @@ loop-less-2 c =
 returns : tie.Need-returns Inv-loop μ-loop
 returns c =
     let i = c .before .before .loop .inv in
-    (upto-stopped isCall counted (i .0) (not-false _ (c .if1 .left)), omega (arith, i .2, i .0 .low))
+    (upto-stopped isCall callsAfter (i .0) (not-false _ (c .if1 .left)), omega (arith, i .2, i .0 .low))
 
 returns-2 : tie.Need-returns-2 Inv-loop μ-loop
 returns-2 c =
     let i = c .before .loop .inv in
-    (upto-past isCall counted (i .0) (c .loop-test .left), omega (arith, i .2, i .0 .low))
+    (upto-past isCall callsAfter (i .0) (c .loop-test .left), omega (arith, i .2, i .0 .low))
 
 pub fed-spec : {M : Type 1} → statement M
 fed-spec =
