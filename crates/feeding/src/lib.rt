@@ -1,6 +1,6 @@
 // Lines that are fed in chunks of any size: a line's bytes go to it as they come, whole or not.
 ghost use mathlib.Core.Path.{_≡_};
-ghost use Prim.Native.Nat.{_+_, _≤_, _<_};
+ghost use Prim.Native.Nat.{_≤_, _<_};
 ghost use lib.ListN.{length, drop};
 ghost use Rattle.feeding.specs.Lines.{oneMore};
 ghost use Rattle.feeding.specs.Feeding.{partOf};

@@ -15,7 +15,7 @@ use Rattle.feeding.proofs.Pieces.{fed-in-pieces, text-in-pieces, fed-stopped, t
 use Rattle.feeding.proofs.Whole.{comes}
 use Rattle.stream.specs.declared.Tally.{Tally}
 use Rattle.stream.specs.Program.{isRow, tallyStart, tallyOf, answerText, headerText, programText}
-use Rattle.stream.specs.Streaming.{streamStart, rowsFed, rowsText, endText, chunksText}
+use Rattle.stream.specs.Streaming.{streamStart, rowsFed, rowsText, lastText, chunksText}
 
 -- a row has room among three numbers
 pub three : Room isRow 3
@@ -24,7 +24,7 @@ three zs h = omega (arith, eqb-true (length zs) 3 h)
 
 -- all that is written from s on, where bs is left of the input
 abbrev onward : Fed Tally → List ℕ → List ℕ
-onward s bs = rowsText s bs ++ endText (rowsFed s bs)
+onward s bs = rowsText s bs ++ lastText (rowsFed s bs)
 
 chunks : (s : Fed Tally) (cs : List (List ℕ)) → chunksText s cs ≡ onward s (joined cs)
 unfolding chunksText joined fedOf textOf

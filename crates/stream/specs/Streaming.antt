@@ -24,9 +24,9 @@ abbrev pub rowsText : Fed Tally → List ℕ → List ℕ
 rowsText = textOf isRow tallyOf answerText
 
 -- what is written last
-abbrev pub endText : Fed Tally → List ℕ
-endText s = closingText (s .begun) (s .kept)
+abbrev pub lastText : Fed Tally → List ℕ
+lastText s = closingText (s .begun) (s .kept)
 
 unfoldable pub chunksText : Fed Tally → List (List ℕ) → List ℕ
-chunksText s [] = endText s
+chunksText s [] = lastText s
 chunksText s (c ∷ cs) = rowsText s c ++ chunksText (rowsFed s c) cs

@@ -9,7 +9,7 @@ ghost use Rattle.text.specs.Decimal.{written};
 ghost use Rattle.record.specs.Record.{sound as soundOf};
 ghost use Rattle.feeding.specs.Lines.{oneMore};
 ghost use Rattle.stream.specs.Program.{headerText, tallyOf, answerText, totalsText};
-ghost use Rattle.stream.specs.Streaming.{asFed, streamStart, rowsFed, rowsText, endText};
+ghost use Rattle.stream.specs.Streaming.{asFed, streamStart, rowsFed, rowsText, lastText};
 use record::Drive;
 use text::Line;
 
@@ -161,7 +161,7 @@ fn put_totals(accepted: u64, clipped: u64, out: &mut [u8], at: usize) -> usize
 // What is written last: that a line is bad, where one is no row or has no line feed, and the totals so far.
 pub fn ended(s: Stream, out: &mut [u8], at: usize) -> usize
     requires { ⌜ at + 81 ≤ length (now out) ⌝ }
-    ensures { λ r. ⌜ (r ≡ at + length (endText (asFed s))) × (now (out .exit) ≡ written (now (out .entry)) at (endText (asFed s))) × (r ≤ at + 81) ⌝ }
+    ensures { λ r. ⌜ (r ≡ at + length (lastText (asFed s))) × (now (out .exit) ≡ written (now (out .entry)) at (lastText (asFed s))) × (r ≤ at + 81) ⌝ }
 {
     if s.begun {
         let place = text::put_bad(feeding::next(s.tally.rows), out, at);
