@@ -1,6 +1,6 @@
 -- `feeding::line_fed` meets its contract. The measure is how many bytes are left.
 -- Assumes nothing.
-use mathlib.Core.Path.{refl, _∙_}
+use mathlib.Core.Path.{refl}
 use Prim.Native.Nat.{_-_}
 use native.Mathlib.Omega.{arith}
 use lib.ListN.{length}

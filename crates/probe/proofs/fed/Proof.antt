@@ -1,6 +1,6 @@
 -- `probe::fed` meets its contract. The measure is how many bytes are left.
 -- Assumes nothing.
-use borrow.Author.Needs.{needs, length-unmapped}
+use borrow.Author.Needs.{length-unmapped}
 use borrow.Author.Tests.{not-true, not-false}
 use Prim.Native.Nat.{_+_, _-_, _*_, _≤_}
 use mathlib.Core.Path.{_≡_, refl, sym, _∙_, ap}
