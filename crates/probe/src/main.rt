@@ -2,10 +2,12 @@
 // model of the drive, in any language, can be held against it word by word.
 ghost use mathlib.Core.Path.{_≡_};
 ghost use Prim.Native.Nat.{_+_, _*_, _≤_};
-ghost use mathlib.Core.Bool.{cond};
+ghost use mathlib.Core.Bool.{cond, not, _&&_};
 ghost use mathlib.Core.List.{[]};
+ghost use lib.Dec.{ltb};
 ghost use lib.IntN.{pos};
 ghost use lib.ListN.{length, take, replicate};
+ghost use Rattle.io.specs.Counts.{Counts};
 ghost use Rattle.text.specs.Decimal.{badText, written};
 ghost use Rattle.feeding.specs.Lines.{oneMore};
 ghost use Rattle.feeding.specs.Feeding.{lineDue, fedOf};
@@ -16,6 +18,7 @@ use drive::Stepped;
 use field::Field;
 use frames::Stator;
 use modulation::Pulses;
+use pipes::Got;
 use record::Command;
 use record::Drive;
 use record::Integrals;
@@ -320,28 +323,26 @@ fn ended(s: Calls, out: &mut [u8]) -> usize
     0
 }
 
-// What a turn leaves: the calls; how many bytes were read, or that the read failed; whether all that was written was sent; whether to go on.
+// What a turn leaves: the calls; whether the read failed; whether all that was written was sent; whether to go on.
 pub struct Turned {
     pub calls: Calls,
-    pub size: usize,
     pub unread: bool,
     pub sent: bool,
     pub going: bool,
 }
 
-// A chunk is read and fed, and what it is answered is sent.
-fn turn(s: Calls, bytes: &mut [u8], out: &mut [u8]) -> Turned
-    requires { ⌜ 264 * length (now bytes) ≤ length (now out) ⌝ }
-    ensures { λ r. ⌜ asFed (r .calls) ≡ fedOf isCall callsAfter (asFed s) (take (r .size) (now (bytes .exit))) ⌝ }
+// What was read is fed, and what it is answered is sent.
+fn turn(s: Calls, got: Got, bytes: &[u8], out: &mut [u8]) -> Turned
+    requires { ⌜ (264 * length (now bytes) ≤ length (now out)) × Counts (got .size) (now bytes) ⌝ }
+    ensures { λ r. ⌜ (asFed (r .calls) ≡ fedOf isCall callsAfter (asFed s) (take (got .size) (now (bytes .entry))))
+        × (r .unread ≡ got .failed) × (r .going ≡ ltb 0 (got .size) && r .sent && not (r .calls .stopped)) ⌝ }
 {
-    let got = pipes::receive(bytes);
     let size = got.size;
     let p = fed(s, &bytes[..size], out, 0);
     let calls = p.calls;
     let sent = pipes::send(out, p.place);
     Turned {
         calls: calls,
-        size: size,
         unread: got.failed,
         sent: sent,
         going: (0 < size) & sent & !calls.stopped,
@@ -356,7 +357,8 @@ fn read_through(first: Turned, bytes: &mut [u8], out: &mut [u8]) -> Turned
     let mut t = first;
     let mut turns = u64::MAX;
     while 0 < turns && t.going {
-        t = turn(t.calls, bytes, out);
+        let got = pipes::receive(bytes);
+        t = turn(t.calls, got, bytes, out);
         turns -= 1;
     }
     t
@@ -368,7 +370,6 @@ fn main() {
     let mut out = [0u8; 67584];
     let first = Turned {
         calls: start(),
-        size: 0,
         unread: false,
         sent: true,
         going: true,

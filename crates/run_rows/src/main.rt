@@ -1,39 +1,40 @@
 // Rows as text, through a run with the bench set: each line of standard input is one row of samples, each line of standard output its three
 // compares and its number. What is read goes to the stream as it comes, and what the stream writes of it is sent at once.
 ghost use mathlib.Core.Path.{_≡_};
-ghost use mathlib.Core.Bool.{true};
+ghost use mathlib.Core.Bool.{true, not, _&&_};
 ghost use Prim.Native.Nat.{_*_, _≤_};
+ghost use lib.Dec.{ltb};
 ghost use lib.ListN.{length, take};
+ghost use Rattle.io.specs.Counts.{Counts};
 ghost use Rattle.text.specs.Decimal.{written};
 ghost use Rattle.stream.specs.Streaming.{asFed, rowsFed, rowsText};
 ghost use Rattle.sine.specs.Sine.{sineTable};
 ghost use Rattle.record.specs.Record.{sound as soundOf};
+use pipes::Got;
 use stream::Stream;
 
-// What a turn leaves: the stream; how many bytes were read, or that the read failed; whether all that was written was sent; whether to go on.
+// What a turn leaves: the stream; whether the read failed; whether all that was written was sent; whether to go on.
 pub struct Turned {
     pub stream: Stream,
-    pub size: usize,
     pub unread: bool,
     pub sent: bool,
     pub going: bool,
 }
 
-// A chunk is read and fed, and what it is answered is sent: 48 bytes for a byte at most.
-fn turn(s: Stream, bytes: &mut [u8], table: &sine::Table, out: &mut [u8]) -> Turned
-    requires { ⌜ (soundOf (s .tally .drive) ≡ true) × (now table ≡ sineTable) × (48 * length (now bytes) ≤ length (now out)) ⌝ }
-    ensures { λ r. ⌜ (asFed (r .stream) ≡ rowsFed (asFed s) (take (r .size) (now (bytes .exit))))
-        × (now (out .exit) ≡ written (now (out .entry)) 0 (rowsText (asFed s) (take (r .size) (now (bytes .exit)))))
+// What was read is fed, and what it is answered is sent: 48 bytes for a byte at most.
+fn turn(s: Stream, got: Got, bytes: &[u8], table: &sine::Table, out: &mut [u8]) -> Turned
+    requires { ⌜ (soundOf (s .tally .drive) ≡ true) × (now table ≡ sineTable) × (48 * length (now bytes) ≤ length (now out)) × Counts (got .size) (now bytes) ⌝ }
+    ensures { λ r. ⌜ (asFed (r .stream) ≡ rowsFed (asFed s) (take (got .size) (now (bytes .entry))))
+        × (now (out .exit) ≡ written (now (out .entry)) 0 (rowsText (asFed s) (take (got .size) (now (bytes .entry)))))
         × (soundOf (r .stream .tally .drive) ≡ true) ⌝ }
+    ensures { λ r. ⌜ (r .unread ≡ got .failed) × (r .going ≡ ltb 0 (got .size) && r .sent && not (r .stream .stopped)) ⌝ }
 {
-    let got = pipes::receive(bytes);
     let size = got.size;
     let p = stream::fed(s, &bytes[..size], table, out, 0);
     let stream = p.stream;
     let sent = pipes::send(out, p.place);
     Turned {
         stream: stream,
-        size: size,
         unread: got.failed,
         sent: sent,
         going: (0 < size) & sent & !stream.stopped,
@@ -48,7 +49,8 @@ fn read_through(first: Turned, bytes: &mut [u8], table: &sine::Table, out: &mut 
     let mut t = first;
     let mut turns = u64::MAX;
     while 0 < turns && t.going {
-        t = turn(t.stream, bytes, table, out);
+        let got = pipes::receive(bytes);
+        t = turn(t.stream, got, bytes, table, out);
         turns -= 1;
     }
     t
@@ -66,7 +68,6 @@ fn main() {
     let sent = pipes::send(&out, header);
     let first = Turned {
         stream: stream::start(d),
-        size: 0,
         unread: false,
         sent: sent,
         going: sent,

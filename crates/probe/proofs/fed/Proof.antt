@@ -65,16 +65,6 @@ loop-again-2 c =
     let b = ap (λ (b : Bool). f .line-fed .result .ended && (not (f .line-fed .result .line .bad) && b)) (sym (k .is-call .ensures)) ∙ y .if2 .left in
     (none-taken (i .0) h (not-true _ (t .if1 .taken)) (e .1 .0) (e .0) b, i .1, omega (arith, i .2, e .1 .1 h), i .3)
 
-loop-less : tie.Need-loop-less Inv-loop μ-loop
-loop-less c =
-    let f = c .before .before .before .before .before .before .before .before .before .before .before .before .before in
-    omega (arith, f .line-fed .ensures .1 .1 (f .before .before .before .loop-test .taken), f .line-fed .ensures .1 .0)
-
-loop-less-2 : tie.Need-loop-less-2 Inv-loop μ-loop
-loop-less-2 c =
-    let f = c .before .before .before .before .before .before .before in
-    omega (arith, f .line-fed .ensures .1 .1 (f .before .before .before .loop-test .taken), f .line-fed .ensures .1 .0)
-
 -- the two ends: stopped, or past the last byte
 returns : tie.Need-returns Inv-loop μ-loop
 returns c =
@@ -99,9 +89,11 @@ fed-spec =
     put-answer-requires
     (λ c κs. tt)
     (λ c κs. tt)
-    loop-less
+    (λ c. let f = c .before .before .before .before .before .before .before .before .before .before .before .before .before in
+    omega (arith, f .line-fed .ensures .1 .1 (f .before .before .before .loop-test .taken), f .line-fed .ensures .1 .0))
     loop-again
-    loop-less-2
+    (λ c. let f = c .before .before .before .before .before .before .before in
+    omega (arith, f .line-fed .ensures .1 .1 (f .before .before .before .loop-test .taken), f .line-fed .ensures .1 .0))
     loop-again-2
     (λ c. c .before .before .loop .inv .3)
     returns

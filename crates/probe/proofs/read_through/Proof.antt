@@ -14,16 +14,18 @@ abbrev μ-loop : tie.MeasureT-loop
 
 turn-requires : tie.Need-turn-requires Inv-loop μ-loop
 turn-requires c κs =
-    let l = c .before .before .before .before in
+    let r = c .before .before .before .before in
+    let l = r .before .before .before .before in
     let i = l .loop .inv in
     let p = l .before .before .before .pre in
-    omega (arith, i .0, i .1, p)
+    (omega (arith, r .receive .kept .0, i .0, i .1, p), r .receive .ensures)
 
 loop-again : tie.Need-loop-again Inv-loop μ-loop
 loop-again c =
-    let t = c .before .before .before .before in
-    let i = t .before .before .before .before .before .loop .inv in
-    (t .turn .kept .1 .0 ∙ i .0, t .turn .kept .1 .1 .0 ∙ i .1)
+    let t = c .before .before in
+    let r = t .before .before .before .before .before in
+    let i = r .before .before .before .before .loop .inv in
+    (r .receive .kept .0 ∙ i .0, t .turn .kept .1 .1 .1 .0 ∙ i .1)
 
 pub read-through-spec : {M : Type 1} → statement M
 read-through-spec =
@@ -32,9 +34,10 @@ read-through-spec =
     Inv-loop
     μ-loop
     (λ c. (refl, refl))
+    (λ c κs. tt)
     turn-requires
-    (λ c. let l = c .before .before .before .before .before .before .before .before in omega (arith, l .loop-test .taken))
-    (λ c. let l = c .before .before .before .before .before .before .before .before in omega (arith, l .loop-test .taken))
+    (λ c. let l = c .before .before .before .before .before .before .before .before .before .before in omega (arith, l .loop-test .taken))
+    (λ c. let l = c .before .before .before .before .before .before .before .before .before .before in omega (arith, l .loop-test .taken))
     loop-again
     (λ c. c .before .before .loop .inv .0)
     (λ c. c .before .before .loop .inv .1)

@@ -16,16 +16,18 @@ abbrev μ-loop : tie.MeasureT-loop
 
 turn-requires : tie.Need-turn-requires Inv-loop μ-loop
 turn-requires c κs =
-    let l = c .before .before .before .before in
+    let r = c .before .before .before .before in
+    let l = r .before .before .before .before in
     let i = l .loop .inv in
     let p = l .before .before .before .pre in
-    (i .2, p .1, omega (arith, i .0, i .1, p .2))
+    (i .2, p .1, omega (arith, r .receive .kept .0, i .0, i .1, p .2), r .receive .ensures)
 
 loop-again : tie.Need-loop-again Inv-loop μ-loop
 loop-again c =
-    let t = c .before .before .before .before in
-    let i = t .before .before .before .before .before .loop .inv in
-    (t .turn .kept .1 .0 ∙ i .0, t .turn .kept .1 .1 .1 .0 ∙ i .1, t .turn .ensures .2)
+    let t = c .before .before in
+    let r = t .before .before .before .before .before in
+    let i = r .before .before .before .before .loop .inv in
+    (r .receive .kept .0 ∙ i .0, t .turn .kept .1 .1 .1 .1 .0 ∙ i .1, t .turn .ensures .0 .2)
 
 pub read-through-spec : {M : Type 1} → statement M
 read-through-spec =
@@ -34,9 +36,10 @@ read-through-spec =
     Inv-loop
     μ-loop
     (λ c. (refl, refl, c .before .before .pre .0))
+    (λ c κs. tt)
     turn-requires
-    (λ c. let l = c .before .before .before .before .before .before .before .before in omega (arith, l .loop-test .taken))
-    (λ c. let l = c .before .before .before .before .before .before .before .before in omega (arith, l .loop-test .taken))
+    (λ c. let l = c .before .before .before .before .before .before .before .before .before .before in omega (arith, l .loop-test .taken))
+    (λ c. let l = c .before .before .before .before .before .before .before .before .before .before in omega (arith, l .loop-test .taken))
     loop-again
     (λ c. c .before .before .loop .inv .0)
     (λ c. c .before .before .loop .inv .1)

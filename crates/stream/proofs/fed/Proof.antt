@@ -58,18 +58,6 @@ loop-again-2 c =
     telling-else (t .before .before .loop .inv) (t .before .loop-test .taken) (not-true _ (t .if1 .taken)) (e .1 .1 (t .before .loop-test .taken)) (e .1 .0) (e .0)
     (ap (λ (b : Bool). f .line-fed .result .ended && b) (sym (k .is-row .ensures)) ∙ y .if2 .left)
 
-loop-less : tie.Need-loop-less Inv-loop μ-loop
-loop-less c =
-    let f = c .before .before .before .before .before .before .before .before .before .before in
-    let t = f .before .before .before in
-    omega (arith, f .line-fed .ensures .1 .1 (t .loop-test .taken), f .line-fed .ensures .1 .0)
-
-loop-less-2 : tie.Need-loop-less-2 Inv-loop μ-loop
-loop-less-2 c =
-    let f = c .before .before .before .before .before in
-    let t = f .before .before .before in
-    omega (arith, f .line-fed .ensures .1 .1 (t .loop-test .taken), f .line-fed .ensures .1 .0)
-
 -- the two ends: stopped, or past the last byte
 returns : tie.Need-returns Inv-loop μ-loop
 returns c = telling-stopped (c .before .before .loop .inv) (not-false _ (c .if1 .left))
@@ -89,9 +77,11 @@ fed-spec =
     (λ c κs. tt)
     row-told-requires
     (λ c κs. tt)
-    loop-less
+    (λ c. let f = c .before .before .before .before .before .before .before .before .before .before in
+    omega (arith, f .line-fed .ensures .1 .1 (f .before .before .before .loop-test .taken), f .line-fed .ensures .1 .0))
     loop-again
-    loop-less-2
+    (λ c. let f = c .before .before .before .before .before in
+    omega (arith, f .line-fed .ensures .1 .1 (f .before .before .before .loop-test .taken), f .line-fed .ensures .1 .0))
     loop-again-2
     (λ c. c .before .before .loop .inv .wrote .long)
     returns
