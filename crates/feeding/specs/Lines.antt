@@ -66,6 +66,9 @@ unfoldable pub answersTo : {T : Type 0} → (T → List ℤ → T) → (T → Li
 answersTo after answer t [] = []
 answersTo after answer t (l ∷ ls) = answer t l ++ answersTo after answer (after t l) ls
 
--- a count of lines and one more; held at the end of 64 bits, which no input reaches
+-- a count of lines, held at the end of 64 bits, which no input reaches; and one more
+abbrev pub heldCount : ℕ → ℕ
+heldCount n = min n 18446744073709551615
+
 abbrev pub oneMore : ℕ → ℕ
-oneMore n = min (n + 1) 18446744073709551615
+oneMore n = heldCount (n + 1)

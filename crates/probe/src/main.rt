@@ -367,6 +367,7 @@ fn read_through(first: Turned, bytes: &mut [u8], out: &mut [u8]) -> Turned
 // Where a read or a write failed words on standard error say so.
 fn main() {
     let mut bytes = [0u8; 256];
+    // 264 places for each of them, as `fed` asks
     let mut out = [0u8; 67584];
     let first = Turned {
         calls: start(),

@@ -21,7 +21,7 @@ pub struct Turned {
     pub going: bool,
 }
 
-// What was read is fed, and what it is answered is sent: 48 bytes for a byte at most.
+// What was read is fed, and what it is answered is sent.
 fn turn(s: Stream, got: Got, bytes: &[u8], table: &sine::Table, out: &mut [u8]) -> Turned
     requires { ⌜ (soundOf (s .tally .drive) ≡ true) × (now table ≡ sineTable) × (48 * length (now bytes) ≤ length (now out)) × Counts (got .size) (now bytes) ⌝ }
     ensures { λ r. ⌜ (asFed (r .stream) ≡ rowsFed (asFed s) (take (got .size) (now (bytes .entry))))
@@ -63,6 +63,7 @@ fn main() {
     };
     let table = sine::table();
     let mut bytes = [0u8; 4096];
+    // 48 places for each of them, as the stream asks
     let mut out = [0u8; 196608];
     let header = stream::put_header(&mut out, 0);
     let sent = pipes::send(&out, header);

@@ -23,10 +23,10 @@ use Rattle.rows.proofs.Outcomes.{run-0}
 use Rattle.rows.proofs.Pieces.{joined as joinedRuns, ran-in-pieces, written-in-pieces}
 use Rattle.text.specs.Grammar.{lineOf}
 use Rattle.text.specs.Decimal.{lineText}
-use Rattle.feeding.specs.Lines.{linesOf, ifFits, goodIn, goodThen, goodOf, goodLines, endsBad, afterAll, answersTo, oneMore}
+use Rattle.feeding.specs.Lines.{linesOf, ifFits, goodIn, goodThen, goodOf, goodLines, endsBad, afterAll, answersTo, heldCount, oneMore}
 use Rattle.feeding.specs.Feeding.{joined}
 use Rattle.stream.specs.declared.Tally.{Tally}
-use Rattle.stream.specs.Program.{isRow, tallyStart, stepOf, tallyOf, answerText, headerText, closingText, programText, foursText, heldCount, ranTally, runText}
+use Rattle.stream.specs.Program.{isRow, tallyStart, stepOf, tallyOf, answerText, headerText, closingText, programText, foursText, ranTally, runText}
 
 -- ════ rows of three numbers each
 pub data Threes : List (List ℤ) → Type 0 where

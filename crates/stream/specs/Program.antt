@@ -1,5 +1,5 @@
 -- What the program writes for an input, from the first byte to the last (document 01, "Rows and the program").
-use Prim.Native.Nat.{ℕ, _*_, min}
+use Prim.Native.Nat.{ℕ, _*_}
 use mathlib.Core.Bool.{Bool, cond}
 use mathlib.Core.List.{List, [], _∷_, _++_}
 use lib.Dec.{eqb}
@@ -10,7 +10,7 @@ use Rattle.drive.specs.declared.Stepped.{Stepped}
 use Rattle.rows.specs.declared.Ran.{Ran}
 use Rattle.rows.specs.Rows.{rowStepped, four, isAccepted, isClipped, rowsIn, runOf, outOf}
 use Rattle.text.specs.Decimal.{countText, lineText, badText}
-use Rattle.feeding.specs.Lines.{goodLines, endsBad, afterAll, answersTo, oneMore}
+use Rattle.feeding.specs.Lines.{goodLines, endsBad, afterAll, answersTo, heldCount, oneMore}
 use Rattle.stream.specs.declared.Tally.{Tally}
 
 -- ════ the rows
@@ -71,10 +71,7 @@ foursText (a ∷ b ∷ []) = []
 foursText (a ∷ b ∷ c ∷ []) = []
 foursText (a ∷ b ∷ c ∷ n ∷ more) = lineText (a ∷ b ∷ c ∷ n ∷ []) ++ foursText more
 
--- what a run of n rows leaves; counts are held at the end of 64 bits, which no input reaches
-abbrev pub heldCount : ℕ → ℕ
-heldCount n = min n 18446744073709551615
-
+-- what a run of n rows leaves
 abbrev pub ranTally : Ran → ℕ → Tally
 ranTally r n = record { drive = r .drive; rows = heldCount n; accepted = heldCount (r .accepted); clipped = heldCount (r .clipped) }
 

@@ -56,7 +56,7 @@ fn is_row(l: Line) -> bool
     !l.bad & (l.count == 3)
 }
 
-// A row is one step, and its answer is a line.
+// A row is one step, and its answer is a line: four numbers of at most eleven bytes, with a byte behind each.
 fn row_told(t: Tally, row: [i32; 3], table: &sine::Table, out: &mut [u8], at: usize) -> Told
     requires { ⌜ (soundOf (t .drive) ≡ true) × (now table ≡ sineTable) × (at + 48 ≤ length (now out)) ⌝ }
     ensures { λ r. ⌜ (r .tally ≡ tallyOf t row) × (r .place ≡ at + length (answerText t row))
@@ -104,7 +104,7 @@ pub fn start(d: Drive) -> Stream
     }
 }
 
-// The bytes of a chunk, whether lines stand whole in it or not.
+// The bytes of a chunk, whether lines stand whole in it or not. A row has a byte at least, so 48 places for each byte are room for any answers.
 pub fn fed(s: Stream, chunk: &[u8], table: &sine::Table, out: &mut [u8], at: usize) -> Passed
     requires { ⌜ (soundOf (s .tally .drive) ≡ true) × (now table ≡ sineTable) × (at + 48 * length (now chunk) ≤ length (now out)) ⌝ }
     ensures { λ r. ⌜ (asFed (r .stream) ≡ rowsFed (asFed s) (now (chunk .entry))) × (soundOf (r .stream .tally .drive) ≡ true) ⌝ }
