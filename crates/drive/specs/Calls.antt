@@ -1,16 +1,19 @@
 -- The public calls, each an equation for every record and every number (document 01, "Numbers handed back").
-use mathlib.Core.Bool.{Bool, true, false, cond, _&&_}
-use lib.IntN.{ℤ, pos, _+ℤ_}
-use Rattle.fixed.specs.Fixed.{within}
-use Rattle.record.specs.declared.Settings.{Settings}
+use mathlib.Core.Bool.{true, false, cond}
+use lib.IntN.{ℤ, pos}
+use Rattle.shaft.specs.Shaft.{unmoved}
+use Rattle.field.specs.Field.{still}
+use Rattle.fixed.specs.Fixed.{inside}
+use Rattle.settings.specs.declared.Settings.{Settings}
 use Rattle.record.specs.declared.Command.{Command}
 use Rattle.record.specs.declared.Drive.{Drive}
 use Rattle.drive.specs.declared.Made.{Made}
 use Rattle.drive.specs.declared.Made.the-variants.{Ready, Refused}
-use Rattle.drive.specs.declared.Stepped.{Stepped}
+use Rattle.stages.specs.declared.Stepped.{Stepped}
 use Rattle.drive.specs.declared.Answered.{Answered}
-use Rattle.record.specs.Record.{refusal, accepted, inside, broken}
-use Rattle.drive.specs.Step.{advanced}
+use Rattle.settings.specs.Settings.{refusal, accepted}
+use Rattle.record.specs.Record.{targetEnd, broken}
+use Rattle.stages.specs.Step.{sampleOk, advanced}
 
 -- ════ settings: a fresh drive, or a number
 -- integrals, flux, angle, stored count, speed, reference, target and torque reference 0, flux reference F, an empty window, no count
@@ -18,9 +21,9 @@ use Rattle.drive.specs.Step.{advanced}
 unfoldable pub fresh : Settings → Drive
 fresh s = record {
   settings = s;
-  shaft = record { count = pos 0; seen = false; sum = pos 0; steps = pos 0; speed = pos 0 };
+  shaft = unmoved;
   command = record { target = pos 0; reference = pos 0; torque = pos 0; flux = s .f };
-  field = record { flux = pos 0; angle = pos 0 };
+  field = still;
   integrals = record { speed = pos 0; d = pos 0; q = pos 0 };
   tripped = false;
 }
@@ -35,11 +38,6 @@ numberOf (Ready d) = pos 0
 numberOf (Refused n) = n
 
 -- ════ a step
--- ia, ib and ia + ib within ±8191, count within 0..65535
-unfoldable pub sampleOk : ℤ → ℤ → ℤ → Bool
-sampleOk ia ib count =
-    inside (pos 8191) ia && inside (pos 8191) ib && inside (pos 8191) (ia +ℤ ib) && within (pos 0) (pos 65535) count
-
 -- the state, but marked tripped
 unfoldable pub tripped : Drive → Drive
 tripped d = record {
@@ -95,7 +93,7 @@ unfoldable pub targeted : Drive → ℤ → Answered
 targeted d wanted =
     cond (broken d) (with d (pos 14))
     (cond (d .tripped) (with d (pos 7))
-    (cond (inside (pos 8191) wanted) (with (aimed d wanted) (pos 0))
+    (cond (inside (pos targetEnd) wanted) (with (aimed d wanted) (pos 0))
     (with d (pos 8))))
 
 -- ════ clear

@@ -13,7 +13,7 @@ use Rattle.fixed.proofs.Ring.{*-nonneg, gap-up, gap-down}
 use Rattle.fixed.proofs.Between.{between-size}
 use Rattle.fixed.proofs.DownLaws.{down-low-parts, down-high-parts, modulo-lo, modulo-hi}
 use Rattle.fixed.proofs.HeldLaws.{held-size, if-less, if-not-less}
-use Rattle.field.specs.Field.{fluxNext, slip, angleNext}
+use Rattle.field.specs.Field.{fluxNext, slip, angleNext, slipEnd}
 
 -- 0 ≤ k ≤ 4096: k·g lies between 0 and 4096·g
 up-hi : (k g : ℤ) → pos 0 ≤ℤ ((pos 4096 -ℤ k) *ℤ g) → (k *ℤ g) ≤ℤ (pos 4096 *ℤ g)
@@ -42,13 +42,13 @@ pub slip-none : (kt flux q : ℤ) → flux <ℤ pos 41 → slip kt flux q ≡ po
 unfolding slip
 slip-none kt flux q h = if-less flux (pos 41) _ _ h
 
-pub slip-some : (kt flux q : ℤ) → pos 41 ≤ℤ flux → slip kt flux q ≡ held (down (kt *ℤ q) flux) (negℤ (pos 16383)) (pos 16383)
+pub slip-some : (kt flux q : ℤ) → pos 41 ≤ℤ flux → slip kt flux q ≡ held (down (kt *ℤ q) flux) (negℤ (pos slipEnd)) (pos slipEnd)
 unfolding slip
 slip-some kt flux q h = if-not-less flux (pos 41) _ _ h
 
-pub slip-size : (kt flux q : ℤ) → natAbs (slip kt flux q) ≤ 16383
+pub slip-size : (kt flux q : ℤ) → natAbs (slip kt flux q) ≤ slipEnd
 unfolding slip
-slip-size kt flux q = cond-ind (ltZ flux (pos 41)) _ _ (λ z. natAbs z ≤ 16383) (λ t. omega arith) (λ t. held-size (down (kt *ℤ q) flux) 16383)
+slip-size kt flux q = cond-ind (ltZ flux (pos 41)) _ _ (λ z. natAbs z ≤ slipEnd) (λ t. omega arith) (λ t. held-size (down (kt *ℤ q) flux) slipEnd)
 
 pub angle-lo : (kth angle w : ℤ) → pos 0 ≤ℤ angleNext kth angle w
 unfolding angleNext

@@ -1,3 +1,4 @@
 pub mod FieldLaws
 pub mod Cases
 pub mod FieldTold
+pub mod FieldRanges

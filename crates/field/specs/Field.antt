@@ -1,18 +1,32 @@
 -- The flux model (document 01, rule 6).
-use Prim.Native.Nat.{_≤_}
-use mathlib.Core.Bool.{cond}
+use Prim.Native.Nat.{ℕ, _≤_}
+use mathlib.Core.Bool.{Bool, cond, _&&_}
 use lib.IntN.{ℤ, pos, negℤ, natAbs, _+ℤ_, _-ℤ_, _*ℤ_}
 use lib.Signed.{ltZ}
-use Rattle.fixed.specs.Fixed.{down, modulo, held}
+use Rattle.fixed.specs.Fixed.{down, modulo, held, inside, Range, isIn}
 use Rattle.field.specs.declared.Field.{Field}
 
+-- ════ the sizes: flux and currents, slip, speed, angle
+abbrev pub fluxEnd : ℕ
+fluxEnd = 20000
+
+abbrev pub slipEnd : ℕ
+slipEnd = 16383
+
+abbrev pub speedEnd : ℕ
+speedEnd = 16383
+
+abbrev pub angles : Range
+angles = record { lo = 0; hi = 65535 }
+
+-- ════ rule 6
 -- flux' = flux + Kr·(d − flux)/4096 down
 unfoldable pub fluxNext : ℤ → ℤ → ℤ → ℤ
 fluxNext kr flux d = flux +ℤ down (kr *ℤ (d -ℤ flux)) (pos 4096)
 
 -- slip is 0 if flux' < 41, else Kt·q/flux' down, held to ±16383
 unfoldable pub slip : ℤ → ℤ → ℤ → ℤ
-slip kt flux q = cond (ltZ flux (pos 41)) (pos 0) (held (down (kt *ℤ q) flux) (negℤ (pos 16383)) (pos 16383))
+slip kt flux q = cond (ltZ flux (pos 41)) (pos 0) (held (down (kt *ℤ q) flux) (negℤ (pos slipEnd)) (pos slipEnd))
 
 -- angle' = angle + Kth·(n + slip)/4096 down, modulo 65536; w is n + slip
 unfoldable pub angleNext : ℤ → ℤ → ℤ → ℤ
@@ -25,13 +39,22 @@ followed kr kt kth f d q n = record {
   angle = angleNext kth (f .angle) (n +ℤ slip kt (fluxNext kr (f .flux) d) q);
 }
 
--- what the code asks of its numbers
+-- ════ the field's words
+-- no flux, at angle 0
+abbrev pub still : Field
+still = record { flux = pos 0; angle = pos 0 }
+
+-- flux ±20000, angle 0..65535
+unfoldable pub fieldOk : Field → Bool
+fieldOk f = inside (pos fluxEnd) (f .flux) && isIn angles (f .angle)
+
+-- ════ what the code asks of its numbers
 pub record Sized (kr kt kth : ℤ) (f : Field) (d q n : ℤ) : Type 0 where
   pub kr-size : natAbs kr ≤ 4096
   pub kt-size : natAbs kt ≤ 32767
   pub kth-size : natAbs kth ≤ 8191
-  pub flux-size : natAbs (f .flux) ≤ 20000
-  pub angle-size : natAbs (f .angle) ≤ 65535
-  pub d-size : natAbs d ≤ 20000
-  pub q-size : natAbs q ≤ 20000
-  pub n-size : natAbs n ≤ 16383
+  pub flux-size : natAbs (f .flux) ≤ fluxEnd
+  pub angle-size : natAbs (f .angle) ≤ angles .hi
+  pub d-size : natAbs d ≤ fluxEnd
+  pub q-size : natAbs q ≤ fluxEnd
+  pub n-size : natAbs n ≤ speedEnd

@@ -2,7 +2,7 @@
 ghost use mathlib.Core.Path.{_≡_};
 ghost use Prim.Native.Nat.{_≤_};
 ghost use lib.IntN.{natAbs, _+ℤ_};
-ghost use Rattle.field.specs.Field.{fluxNext, slip as slipOf, angleNext, followed as followedOf, Sized};
+ghost use Rattle.field.specs.Field.{fluxNext, slip as slipOf, angleNext, followed as followedOf, fluxEnd, slipEnd, speedEnd, angles, still as stillOf, fieldOk, Sized};
 
 #[repr(C)]
 pub struct Field {
@@ -12,7 +12,7 @@ pub struct Field {
 
 // The flux follows d with the rotor's time constant.
 pub fn flux_next(kr: i32, flux: i32, d: i32) -> i32
-    requires { ⌜ (natAbs kr ≤ 4096) × (natAbs flux ≤ 20000) × (natAbs d ≤ 20000) ⌝ }
+    requires { ⌜ (natAbs kr ≤ 4096) × (natAbs flux ≤ fluxEnd) × (natAbs d ≤ fluxEnd) ⌝ }
     ensures { λ r. ⌜ r ≡ fluxNext kr flux d ⌝ }
 {
     let change = fixed::scaled(kr, d - flux, 4096) as i32;
@@ -32,7 +32,7 @@ pub fn slip(kt: i32, flux: i32, q: i32) -> i32
 
 // The angle after the step, from the speed n and the slip s. The remainder is a floor's: a negative angle comes round from the top.
 pub fn angle_next(kth: i32, angle: i32, n: i32, s: i32) -> i32
-    requires { ⌜ (natAbs kth ≤ 8191) × (natAbs angle ≤ 65535) × (natAbs n ≤ 16383) × (natAbs s ≤ 16383) ⌝ }
+    requires { ⌜ (natAbs kth ≤ 8191) × (natAbs angle ≤ angles .hi) × (natAbs n ≤ speedEnd) × (natAbs s ≤ slipEnd) ⌝ }
     ensures { λ r. ⌜ r ≡ angleNext kth angle (n +ℤ s) ⌝ }
 {
     let a = angle as i64 + fixed::scaled(kth, n + s, 4096);
@@ -50,4 +50,18 @@ pub fn followed(kr: i32, kt: i32, kth: i32, f: Field, d: i32, q: i32, n: i32) ->
         flux: flux,
         angle: angle_next(kth, f.angle, n, s),
     }
+}
+
+// The field of a fresh drive.
+pub fn still() -> Field
+    ensures { λ r. ⌜ r ≡ stillOf ⌝ }
+{
+    Field { flux: 0, angle: 0 }
+}
+
+// Whether the words of any field are in range.
+pub fn field_ok(f: Field) -> bool
+    ensures { λ r. ⌜ r ≡ fieldOk f ⌝ }
+{
+    fixed::within(-20000, 20000, f.flux) & fixed::within(0, 65535, f.angle)
 }

@@ -11,7 +11,7 @@ use Rattle.fixed.proofs.Size.{abs-+, abs--, abs-*, abs-*≤}
 use Rattle.fixed.proofs.DownLaws.{down-within, down-size}
 use Rattle.frames.specs.declared.Stator.{Stator}
 use Rattle.frames.specs.declared.Rotor.{Rotor}
-use Rattle.frames.specs.Frames.{clarke, park, inversePark}
+use Rattle.frames.specs.Frames.{clarke, park, inversePark, sampleEnd, betaEnd, rotorEnd}
 
 -- the sum and the difference of two products with a sine and a cosine
 module _ (i j : ℕ) (a b s c : ℤ) (ha : natAbs a ≤ i) (hb : natAbs b ≤ j) (hs : natAbs s ≤ 4096) (hc : natAbs c ≤ 4096) where
@@ -22,11 +22,11 @@ module _ (i j : ℕ) (a b s c : ℤ) (ha : natAbs a ≤ i) (hb : natAbs b ≤ j)
   difference-size = down-within (a *ℤ s -ℤ b *ℤ c) 4096 (i + j) tt (omega (arith, abs-- (a *ℤ s) (b *ℤ c), abs-*≤ i 4096 a s ha hs, abs-*≤ j 4096 b c hb hc))
 
 -- α and β of accepted samples
-pub alpha-size : (ia ib : ℤ) → natAbs ia ≤ 8191 → natAbs (clarke ia ib .alpha) ≤ 8191
+pub alpha-size : (ia ib : ℤ) → natAbs ia ≤ sampleEnd → natAbs (clarke ia ib .alpha) ≤ sampleEnd
 unfolding clarke
 alpha-size ia ib h = h
 
-pub beta-size : (ia ib : ℤ) → natAbs ib ≤ 8191 → natAbs (ia +ℤ ib) ≤ 8191 → natAbs (clarke ia ib .beta) ≤ 9459
+pub beta-size : (ia ib : ℤ) → natAbs ib ≤ sampleEnd → natAbs (ia +ℤ ib) ≤ sampleEnd → natAbs (clarke ia ib .beta) ≤ betaEnd
 unfolding clarke
 beta-size ia ib h k = down-size _ 4096 38743430 tt (omega (arith, abs-* (pos 2 *ℤ ib +ℤ ia) (pos 2365), twice))
   where
@@ -53,3 +53,10 @@ module _ (i j : ℕ) (sin cos : ℤ) (hs : natAbs sin ≤ 4096) (hc : natAbs cos
   pub back-beta-size : (v : Rotor) → natAbs (v .d) ≤ i → natAbs (v .q) ≤ j → natAbs (inversePark v sin cos .beta) ≤ j + i
   unfolding inversePark
   back-beta-size v h k = sum-size j i (v .q) (v .d) cos sin k h hc hs
+
+-- d and q of accepted samples
+pub rotor-size : (ia ib sin cos : ℤ) → natAbs ia ≤ sampleEnd → natAbs ib ≤ sampleEnd → natAbs (ia +ℤ ib) ≤ sampleEnd → natAbs sin ≤ 4096 → natAbs cos ≤ 4096 → (natAbs (park (clarke ia ib) sin cos .d) ≤ rotorEnd) × (natAbs (park (clarke ia ib) sin cos .q) ≤ rotorEnd)
+rotor-size ia ib sin cos a b e hs hc =
+    let h = alpha-size ia ib a in
+    let k = beta-size ia ib b e in
+    (d-size sampleEnd betaEnd sin cos hs hc (clarke ia ib) h k, q-size sampleEnd betaEnd sin cos hs hc (clarke ia ib) h k)

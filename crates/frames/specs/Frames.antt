@@ -1,9 +1,19 @@
 -- From phase currents to the rotor's frame and back (document 01, rules 3, 5 and 8).
-use Prim.Native.Nat.{_≤_}
+use Prim.Native.Nat.{ℕ, _+_, _≤_}
 use lib.IntN.{ℤ, pos, natAbs, _+ℤ_, _-ℤ_, _*ℤ_}
 use Rattle.fixed.specs.Fixed.{down}
 use Rattle.frames.specs.declared.Stator.{Stator}
 use Rattle.frames.specs.declared.Rotor.{Rotor}
+
+-- the size of samples that are taken, of the β that Clarke makes of them, and of the d and q that Park makes of both
+abbrev pub sampleEnd : ℕ
+sampleEnd = 8191
+
+abbrev pub betaEnd : ℕ
+betaEnd = 9459
+
+abbrev pub rotorEnd : ℕ
+rotorEnd = sampleEnd + betaEnd
 
 -- α = ia; β = (2·ib + ia)·2365/4096 down
 unfoldable pub clarke : ℤ → ℤ → Stator

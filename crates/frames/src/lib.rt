@@ -3,7 +3,7 @@ ghost use mathlib.Core.Path.{_≡_};
 ghost use Prim.Native.Nat.{_≤_};
 ghost use lib.IntN.{pos, natAbs, _+ℤ_, _-ℤ_, _*ℤ_};
 ghost use Rattle.fixed.specs.Fixed.{down as downOf};
-ghost use Rattle.frames.specs.Frames.{clarke as clarkeOf, park as parkOf, inversePark, Sized};
+ghost use Rattle.frames.specs.Frames.{clarke as clarkeOf, park as parkOf, inversePark, Sized, sampleEnd};
 
 // In the stator's frame, which stands still.
 pub struct Stator {
@@ -34,7 +34,7 @@ fn difference(a: i32, m: i32, b: i32, n: i32) -> i32
 }
 
 pub fn clarke(ia: i32, ib: i32) -> Stator
-    requires { ⌜ (natAbs ia ≤ 8191) × (natAbs ib ≤ 8191) ⌝ }
+    requires { ⌜ (natAbs ia ≤ sampleEnd) × (natAbs ib ≤ sampleEnd) ⌝ }
     ensures { λ r. ⌜ r ≡ clarkeOf ia ib ⌝ }
 {
     let beta = fixed::scaled(2 * ib + ia, 2365, 4096) as i32;

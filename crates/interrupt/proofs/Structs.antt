@@ -1,10 +1,10 @@
 -- The structs of the calls in place, as InPlace takes them. Assumes nothing.
-use Rattle.record.proofs.Settings as Settings
-use Rattle.record.proofs.Settings.Laws as Settings′
+use Rattle.settings.proofs.Settings as Settings
+use Rattle.settings.proofs.Settings.Laws as Settings′
 use Rattle.record.proofs.Drive as Drive
 use Rattle.record.proofs.Drive.Laws as Drive′
-use Rattle.drive.proofs.Stepped as Stepped
-use Rattle.drive.proofs.Stepped.Laws as Stepped′
+use Rattle.stages.proofs.Stepped as Stepped
+use Rattle.stages.proofs.Stepped.Laws as Stepped′
 use Rattle.drive.proofs.Answered as Answered
 use Rattle.drive.proofs.Answered.Laws as Answered′
 use Rattle.interrupt.proofs.Output as Output

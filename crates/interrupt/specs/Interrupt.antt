@@ -1,9 +1,9 @@
 -- What each call on a record in place hands back, and the record that it leaves, beside `drive`'s definitions.
-use Rattle.record.specs.declared.Settings.{Settings}
+use Rattle.settings.specs.declared.Settings.{Settings}
 use Rattle.record.specs.declared.Drive.{Drive}
 use Rattle.drive.specs.declared.Made.{Made}
 use Rattle.drive.specs.declared.Made.the-variants.{Ready, Refused}
-use Rattle.drive.specs.declared.Stepped.{Stepped}
+use Rattle.stages.specs.declared.Stepped.{Stepped}
 use Rattle.drive.specs.declared.Answered.{Answered}
 use Rattle.drive.specs.Calls.{made, numberOf, with}
 use Rattle.interrupt.specs.declared.Output.{Output}

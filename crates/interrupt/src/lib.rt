@@ -6,9 +6,9 @@ ghost use Rattle.drive.specs.Calls.{made, numberOf, stepped, targeted, cleared}
 ghost use Rattle.interrupt.specs.Interrupt.{outputOf, driveOr, started as startedOf};
 use drive::Answered;
 use drive::Made;
-use drive::Stepped;
 use record::Drive;
-use record::Settings;
+use settings::Settings;
+use stages::Stepped;
 
 // What a step answers: the compares of the phases a, b and c, document 01's number, whether the voltage was more than the period
 // holds, and the voltage that was modulated.

@@ -11,9 +11,10 @@ use Rattle.modulation.specs.declared.Row.{Row}
 use Rattle.modulation.specs.declared.Times.{Times}
 use Rattle.modulation.specs.declared.Pulses.{Pulses}
 
--- the upper end of the period T, and the largest size that an entry of the table can have: |A + B| for |vα|, |vβ| ≤ 8192
+-- the longest period that the code takes, whatever range the settings have, and the largest size that an entry of the table can have:
+-- |A + B| for |vα|, |vβ| ≤ 8192
 abbrev pub longest : ℕ
-longest = 4000
+longest = 32767
 
 abbrev pub entryEnd : ℕ
 entryEnd = 45834240

@@ -1,7 +1,7 @@
 // The run, as often as standard input has bytes: 32 rows a run or, where the first byte is `e`, none. So the instructions that one row needs are
 // (those of one more run with rows − those of one more without) / 32, whatever reading, starting and writing cost.
-use drive::Made;
 use record::Drive;
+use settings::Checked;
 
 // A motor that turns slowly at its nominal flux: the currents scatter, the count moves, slip divides in every row once the flux is there.
 const SAMPLES: [i32; 96] = [
@@ -128,9 +128,10 @@ fn above(v: i32) -> u64 {
 }
 
 fn main() {
-    let Made::Ready(d) = drive::make(record::bench()) else {
+    let Checked::Accepted(s) = settings::check(settings::bench()) else {
         return;
     };
+    let d = drive::fresh(s);
     let mut bytes = io::large_buffer();
     let got = pipes::receive(&mut bytes);
     if got.failed {

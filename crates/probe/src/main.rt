@@ -11,10 +11,9 @@ ghost use Rattle.io.specs.Counts.{Counts};
 ghost use Rattle.text.specs.Decimal.{badText, written};
 ghost use Rattle.feeding.specs.Lines.{oneMore};
 ghost use Rattle.feeding.specs.Feeding.{lineDue, fedOf};
-ghost use Rattle.probe.specs.Calls.{callBy, isCall, callsAfter, asFed};
+ghost use Rattle.probe.specs.Calls.{most, callBy, isCall, callsAfter, asFed};
 use drive::Answered;
 use drive::Made;
-use drive::Stepped;
 use field::Field;
 use frames::Stator;
 use modulation::Pulses;
@@ -22,8 +21,9 @@ use pipes::Got;
 use record::Command;
 use record::Drive;
 use record::Integrals;
-use record::Settings;
+use settings::Settings;
 use shaft::Shaft;
+use stages::Stepped;
 use text::Line;
 
 // What is kept from one byte to the next: how many calls came, the line at hand, its numbers, and whether a byte of it came; whether a line came
@@ -31,7 +31,7 @@ use text::Line;
 pub struct Calls {
     pub before: u64,
     pub line: Line,
-    pub numbers: [i32; 34],
+    pub numbers: [i32; ALL],
     pub begun: bool,
     pub stopped: bool,
 }
@@ -42,82 +42,83 @@ pub struct Passed {
     pub place: usize,
 }
 
-// Numbers in: the call, 15 settings, 15 words of the record, then the call's own.
-fn settings_in(n: &[i32; 34]) -> Settings {
-    Settings {
-        t: n[1],
-        skp: n[2],
-        skcor: n[3],
-        ski: n[4],
-        ckp: n[5],
-        ckcor: n[6],
-        cki: n[7],
-        v: n[8],
-        q: n[9],
-        kr: n[10],
-        kt: n[11],
-        kth: n[12],
-        kn: n[13],
-        f: n[14],
-        r: n[15],
-    }
+// Numbers in: the call, the settings, 15 words of the record, then the call's own. The places of these three, and the most there are.
+const SETTINGS: usize = 1;
+
+const RECORD: usize = SETTINGS + settings::WORDS;
+
+const OWN: usize = RECORD + 15;
+
+const ALL: usize = OWN + 3;
+
+// Of the record's words two are flags.
+const SEEN: usize = RECORD + 1;
+
+const TRIPPED: usize = RECORD + 14;
+
+// What a target has of its own is one number.
+const WITH_TARGET: usize = OWN + 1;
+
+fn settings_in(n: &[i32; ALL]) -> Settings {
+    let words = &n[..];
+    settings::of_words(&words[SETTINGS..])
 }
 
-fn shaft_in(n: &[i32; 34]) -> Shaft {
+fn shaft_in(n: &[i32; ALL]) -> Shaft {
     Shaft {
-        count: n[16],
-        seen: n[17] != 0,
-        sum: n[18],
-        steps: n[19],
-        speed: n[20],
+        count: n[RECORD],
+        seen: n[SEEN] != 0,
+        sum: n[RECORD + 2],
+        steps: n[RECORD + 3],
+        speed: n[RECORD + 4],
     }
 }
 
-fn command_in(n: &[i32; 34]) -> Command {
+fn command_in(n: &[i32; ALL]) -> Command {
     Command {
-        target: n[21],
-        reference: n[22],
-        torque: n[23],
-        flux: n[24],
+        target: n[RECORD + 5],
+        reference: n[RECORD + 6],
+        torque: n[RECORD + 7],
+        flux: n[RECORD + 8],
     }
 }
 
-fn field_in(n: &[i32; 34]) -> Field {
+fn field_in(n: &[i32; ALL]) -> Field {
     Field {
-        flux: n[25],
-        angle: n[26],
+        flux: n[RECORD + 9],
+        angle: n[RECORD + 10],
     }
 }
 
-fn integrals_in(n: &[i32; 34]) -> Integrals {
+fn integrals_in(n: &[i32; ALL]) -> Integrals {
     Integrals {
-        speed: n[27],
-        d: n[28],
-        q: n[29],
+        speed: n[RECORD + 11],
+        d: n[RECORD + 12],
+        q: n[RECORD + 13],
     }
 }
 
-fn drive_in(n: &[i32; 34]) -> Drive {
+fn drive_in(n: &[i32; ALL]) -> Drive {
     Drive {
         settings: settings_in(n),
         shaft: shaft_in(n),
         command: command_in(n),
         field: field_in(n),
         integrals: integrals_in(n),
-        tripped: n[30] != 0,
+        tripped: n[TRIPPED] != 0,
     }
 }
 
 // Whether so many numbers are a call: 0 makes a drive, 1 steps it, 2 sets its target, 3 clears it. A flag is 0 or 1.
-fn is_call(n: &[i32; 34], count: usize) -> bool
+fn is_call(n: &[i32; ALL], count: usize) -> bool
     ensures { λ r. ⌜ r ≡ callBy (now (n .entry)) count ⌝ }
 {
     let call = n[0];
-    let flags = fixed::within(0, 1, n[17]) & fixed::within(0, 1, n[30]);
-    let made = (count == 16) & fixed::within(0, 0, call);
-    let stepped = (count == 34) & (fixed::within(1, 1, call) & flags);
-    let targeted = (count == 32) & (fixed::within(2, 2, call) & flags);
-    let cleared = (count == 31) & (fixed::within(3, 3, call) & flags);
+    let flags = fixed::within(0, 1, n[SEEN]) & fixed::within(0, 1, n[TRIPPED]);
+    let made = (count == RECORD) & fixed::within(0, 0, call);
+    let stepped = (count == ALL) & (fixed::within(1, 1, call) & flags);
+    let targeted = (count == WITH_TARGET) & (fixed::within(2, 2, call) & flags);
+    let cleared = (count == OWN) & (fixed::within(3, 3, call) & flags);
     made | stepped | targeted | cleared
 }
 
@@ -233,7 +234,7 @@ fn made(m: Made, words: &mut [i32]) -> usize
     drive_out(d, words, at)
 }
 
-fn answer(n: &[i32; 34], words: &mut [i32]) -> usize
+fn answer(n: &[i32; ALL], words: &mut [i32]) -> usize
     requires { ⌜ 22 ≤ length (now words) ⌝ }
     ensures { λ r. ⌜ (1 ≤ r) × (r ≤ 22) ⌝ }
 {
@@ -243,16 +244,16 @@ fn answer(n: &[i32; 34], words: &mut [i32]) -> usize
     }
     let d = drive_in(n);
     if call == 1 {
-        return stepped(drive::step(d, n[31], n[32], n[33]), words);
+        return stepped(drive::step(d, n[OWN], n[OWN + 1], n[OWN + 2]), words);
     }
     if call == 2 {
-        return answered(drive::target(d, n[31]), words);
+        return answered(drive::target(d, n[OWN]), words);
     }
     answered(drive::clear(d), words)
 }
 
 // Twelve bytes for each of 22 words.
-fn put_answer(n: &[i32; 34], out: &mut [u8], at: usize) -> usize
+fn put_answer(n: &[i32; ALL], out: &mut [u8], at: usize) -> usize
     requires { ⌜ at + 264 ≤ length (now out) ⌝ }
     ensures { λ r. ⌜ r ≤ at + 264 ⌝ }
 {
@@ -262,12 +263,12 @@ fn put_answer(n: &[i32; 34], out: &mut [u8], at: usize) -> usize
 }
 
 fn start() -> Calls
-    ensures { λ r. ⌜ asFed r ≡ lineDue 0 (replicate 34 (pos 0)) ⌝ }
+    ensures { λ r. ⌜ asFed r ≡ lineDue 0 (replicate most (pos 0)) ⌝ }
 {
     Calls {
         before: 0,
         line: text::line_start(),
-        numbers: [0; 34],
+        numbers: [0; ALL],
         begun: false,
         stopped: false,
     }

@@ -1,46 +1,44 @@
--- Demand 3. Over any history each of the three integrals is within its regulator's limits, and the compares of any step or row lie within
--- 0..T. And in every accepted step, of whatever drive: whenever a regulator runs, its integral ends between the old value and the output
--- issued; its output leaves a limit when the error turns; unclipped, the on-times differ by what the voltage asks, but for less than two
--- counts.
+-- Demand 3: the regulator fact for each of the three regulators, and the modulation's laws, at an accepted step.
 -- Assumes nothing.
 use mathlib.Core.Path.{_≡_, refl, sym, _∙_, ap, ap₂, subst}
-use mathlib.Core.Bool.{Bool, true, false, cond}
-use mathlib.Core.List.{List}
-use Prim.Native.Nat.{ℕ}
-use lib.IntN.{ℤ, pos, negℤ, _-ℤ_, _*ℤ_}
+use mathlib.Core.Bool.{Bool, true, false, cond, true≢false}
+use Prim.Native.Nat.{_≤_}
+use lib.IntN.{ℤ, pos, negℤ, natAbs, _-ℤ_, _*ℤ_}
 use lib.Signed.{_≤ℤ_, _<ℤ_, ≤ℤ-refl}
-use Rattle.fixed.specs.Fixed.{Between}
+use Rattle.fixed.specs.Fixed.{Between, inside}
+use Rattle.fixed.proofs.Equal.{ap₃}
 use Rattle.fixed.proofs.HeldLaws.{within-lo, within-hi}
 use Rattle.sine.specs.Sine.{sineAt, cosineAt}
+use Rattle.sine.proofs.Rule.{sine-size, cosine-size}
 use Rattle.regulator.specs.Regulator.{regulated, Lawful}
 use Rattle.regulator.proofs.Fact as fact
-use Rattle.fixed.proofs.Equal.{ap₃}
 use Rattle.frames.specs.declared.Stator.{Stator}
 use Rattle.frames.specs.Frames.{inversePark}
-use Rattle.modulation.specs.declared.Pulses.{Pulses}
+use Rattle.frames.proofs.FrameLaws.{back-alpha-size, back-beta-size}
 use Rattle.shaft.specs.Shaft.{thirtieth, counted, measured}
+use Rattle.modulation.specs.declared.Pulses.{Pulses}
 use Rattle.modulation.specs.Modulation.{modulated, InPeriod, AllInPeriod, AsAsked}
 use Rattle.modulation.proofs.Compares.{compares-within, on-times}
 use Rattle.record.specs.declared.Drive.{Drive}
-use Rattle.record.specs.Record.{inside, broken}
-use Rattle.record.proofs.Ranges.{Inside, Sound, not-broken}
-use Rattle.drive.specs.Step.{speedGains, currentGains, speedRegulated, currentRegulated, withTorque, withSpeed, withShaft, withCommand, commanded, turned, dRegulated, qRegulated, voltageOf, voltageFor, withField, outcome, pulsed, driven, advanced}
-use Rattle.drive.specs.Calls.{sampleOk, refused, stepped}
-use Rattle.drive.proofs.Sizes as size
-use Rattle.drive.proofs.Kept as kept
+use Rattle.fixed.proofs.Ranges.{Inside}
+use Rattle.record.proofs.Ranges.{Sound, not-broken}
+use Rattle.stages.specs.Step.{speedGains, currentGains, speedRegulated, currentRegulated, withTorque, withSpeed, withShaft, withCommand, commanded, turned, dRegulated, qRegulated, voltageOf, voltageFor, withField, outcome, pulsed, driven, advanced}
+use Rattle.drive.specs.Calls.{refused, stepped}
+use Rattle.stages.proofs.Sizes as size
+use Rattle.stages.proofs.Kept as kept
 use Rattle.rows.specs.Rows.{rowStepped, ranOf}
 use Rattle.rows.proofs.Runs.{rows-sound}
-use Rattle.promises.specs.Histories.{History, rowAt}
+use Rattle.promises.specs.Histories.{rowAt}
 use Rattle.promises.specs.Words.{seen, issued, dError, qError, next, speedError}
-use Rattle.promises.proofs.Demand1 as table
+use Rattle.promises.specs.Demand3.{EachStep, EachStepAndRow, IntegralsWithin, IntegralsBetween, OutputsLeave, PulsesAsAsked, ComparesOfAnyStep, ComparesOfAnyRow}
+use Rattle.promises.proofs.Demand1.{passed, by-outcome}
 use Rattle.promises.proofs.Demand2.{step-by-the-rules}
 use Rattle.promises.proofs.Keeping.{reached-sound, turned-keeps, turned-settings, rows-settings}
 
 -- ════ any history: the integrals within their limits
-pub integrals-within : (d : Drive) → History d
-    → (inside (d .settings .q) (d .integrals .speed) ≡ true) × (inside (d .settings .v) (d .integrals .d) ≡ true) × (inside (d .settings .v) (d .integrals .q) ≡ true)
+pub integrals-within : IntegralsWithin
 unfolding inside
-integrals-within d r = let h = reached-sound d r .integrals in (h .speed, h .d, h .q)
+integrals-within d r = let h = reached-sound d r .integrals in record { speed = h .speed; d-axis = h .d; q-axis = h .q }
 
 -- ════ rules 1 and 2 leave the current integrals as they were
 turned-d : (d : Drive) (count : ℤ) → turned d count .integrals .d ≡ d .integrals .d
@@ -64,13 +62,13 @@ module _ (d : Drive) (ia ib count : ℤ) (ok : stepped d ia ib count .number ≡
   mid = turned d count
 
   met : Sound d
-  met = not-broken d .0 (table.step-0 d ia ib count .0 ok .0)
+  met = not-broken d .0 (passed d ia ib count ok .0)
 
   rules : stepped d ia ib count ≡ advanced d ia ib count
   rules = step-by-the-rules d ia ib count ok
 
   mid-sound : Sound mid
-  mid-sound = kept.turned-sound d count met (size.samples→ ia ib count (table.step-0 d ia ib count .0 ok .2) .3)
+  mid-sound = kept.turned-sound d count met (size.samples→ ia ib count (passed d ia ib count ok .1 .1 .0) .3)
 
   new-d : new .integrals .d ≡ dRegulated mid (seen d ia ib) .x
   unfolding next advanced driven pulsed outcome withField voltageFor voltageOf seen
@@ -104,32 +102,6 @@ module _ (d : Drive) (ia ib count : ℤ) (ok : stepped d ia ib count .number ≡
       (fact.leaves-bottom x e (currentGains (mid .settings)) (mid .settings .v) current (size.v-lo mid mid-sound) (within-lo (negℤ (mid .settings .v)) (mid .settings .v) x i)
       (subst (λ (k : ℤ). pos 4096 ≤ℤ (e *ℤ k)) (ap (λ s. s .ckp) (sym (turned-settings d count))) h))
 
-  -- d and q: between the old integral and the output issued, ends included
-  pub d-between : Between (d .integrals .d) (new .integrals .d) (issued d ia ib count .d)
-  unfolding issued voltageFor voltageOf dRegulated currentRegulated
-  d-between = renamed (turned-d d count) new-d (between (mid .integrals .d) (mid .command .flux -ℤ seen d ia ib .d))
-
-  pub q-between : Between (d .integrals .q) (new .integrals .q) (issued d ia ib count .q)
-  unfolding issued voltageFor voltageOf qRegulated currentRegulated
-  q-between = renamed (turned-q d count) new-q (between (mid .integrals .q) (mid .command .torque -ℤ seen d ia ib .q))
-
-  -- a negative error: the output is below the upper limit; one worth a count: it is above the lower
-  pub d-leaves-top : dError d ia ib count <ℤ pos 0 → issued d ia ib count .d <ℤ d .settings .v
-  unfolding dError issued voltageFor voltageOf dRegulated currentRegulated
-  d-leaves-top e = leaves-top (mid .integrals .d) (dError d ia ib count) (mid-sound .integrals .d) e
-
-  pub d-leaves-bottom : pos 4096 ≤ℤ (dError d ia ib count *ℤ d .settings .ckp) → negℤ (d .settings .v) <ℤ issued d ia ib count .d
-  unfolding dError issued voltageFor voltageOf dRegulated currentRegulated
-  d-leaves-bottom e = leaves-bottom (mid .integrals .d) (dError d ia ib count) (mid-sound .integrals .d) e
-
-  pub q-leaves-top : qError d ia ib count <ℤ pos 0 → issued d ia ib count .q <ℤ d .settings .v
-  unfolding qError issued voltageFor voltageOf qRegulated currentRegulated
-  q-leaves-top e = leaves-top (mid .integrals .q) (qError d ia ib count) (mid-sound .integrals .q) e
-
-  pub q-leaves-bottom : pos 4096 ≤ℤ (qError d ia ib count *ℤ d .settings .ckp) → negℤ (d .settings .v) <ℤ issued d ia ib count .q
-  unfolding qError issued voltageFor voltageOf qRegulated currentRegulated
-  q-leaves-bottom e = leaves-bottom (mid .integrals .q) (qError d ia ib count) (mid-sound .integrals .q) e
-
   -- the speed regulator, which runs in a tick and gives the torque reference
   abbrev ticked : Drive
   ticked = commanded d (measured (counted (d .shaft) count) (d .settings .kn))
@@ -161,28 +133,32 @@ module _ (d : Drive) (ia ib count : ℤ) (ok : stepped d ia ib count .number ≡
   unfolding speedError
   error-is t = ap₂ (λ (r n : ℤ). r -ℤ n) (ap (λ c. c .reference) (new-command true t)) (ap (λ s. s .speed) (new-shaft true t))
 
-  pub speed-between : thirtieth (d .shaft) ≡ true → Between (d .integrals .speed) (new .integrals .speed) (new .command .torque)
-  unfolding commanded withCommand withTorque withSpeed speedRegulated regulated
-  speed-between t =
-      subst (λ (o : ℤ). Between (d .integrals .speed) (new .integrals .speed) o) (sym (ap (λ c. c .torque) (new-command true t)))
-      (renamed refl (new-speed true t) (fact.next-between (d .integrals .speed) _ (speedGains (d .settings)) (d .settings .q) speed (size.q-lo d met)))
+  -- each regulator runs by the regulator fact, from the integral that the drive had
+  step-integrals : IntegralsBetween d ia ib count
+  unfolding issued voltageFor voltageOf dRegulated qRegulated currentRegulated commanded withCommand withTorque withSpeed withShaft speedRegulated regulated
+  step-integrals = record {
+    d-axis = renamed (turned-d d count) new-d (between (mid .integrals .d) (mid .command .flux -ℤ seen d ia ib .d));
+    q-axis = renamed (turned-q d count) new-q (between (mid .integrals .q) (mid .command .torque -ℤ seen d ia ib .q));
+    speed = λ t.
+        subst (λ (o : ℤ). Between (d .integrals .speed) (new .integrals .speed) o) (sym (ap (λ c. c .torque) (new-command true t)))
+        (renamed refl (new-speed true t) (fact.next-between (d .integrals .speed) _ (speedGains (d .settings)) (d .settings .q) speed (size.q-lo d met)));
+    speed-stays = λ t. (new-speed false t, ap (λ c. c .torque) (new-command false t));
+  }
 
-  pub speed-leaves-top : thirtieth (d .shaft) ≡ true → speedError d ia ib count <ℤ pos 0 → new .command .torque <ℤ d .settings .q
-  unfolding commanded withCommand withTorque withSpeed speedRegulated regulated
-  speed-leaves-top t e =
-      subst (λ (o : ℤ). o <ℤ d .settings .q) (sym (ap (λ c. c .torque) (new-command true t)))
-      (fact.leaves-top (d .integrals .speed) _ (speedGains (d .settings)) (d .settings .q) speed (size.q-lo d met) (within-hi (negℤ (d .settings .q)) (d .settings .q) (d .integrals .speed) (met .integrals .speed)) (subst (λ (k : ℤ). k <ℤ pos 0) (error-is t) e))
-
-  pub speed-leaves-bottom : thirtieth (d .shaft) ≡ true → pos 4096 ≤ℤ (speedError d ia ib count *ℤ d .settings .skp) → negℤ (d .settings .q) <ℤ new .command .torque
-  unfolding commanded withCommand withTorque withSpeed speedRegulated regulated speedGains
-  speed-leaves-bottom t e =
-      subst (λ (o : ℤ). negℤ (d .settings .q) <ℤ o) (sym (ap (λ c. c .torque) (new-command true t)))
-      (fact.leaves-bottom (d .integrals .speed) _ (speedGains (d .settings)) (d .settings .q) speed (size.q-lo d met) (within-lo (negℤ (d .settings .q)) (d .settings .q) (d .integrals .speed) (met .integrals .speed)) (subst (λ (k : ℤ). pos 4096 ≤ℤ (k *ℤ d .settings .skp)) (error-is t) e))
-
-  -- between two ticks it does not run: integral and torque reference stay
-  pub speed-stays : thirtieth (d .shaft) ≡ false → (new .integrals .speed ≡ d .integrals .speed) × (new .command .torque ≡ d .command .torque)
-  unfolding withShaft
-  speed-stays t = (new-speed false t, ap (λ c. c .torque) (new-command false t))
+  step-outputs : OutputsLeave d ia ib count
+  unfolding dError qError issued voltageFor voltageOf dRegulated qRegulated currentRegulated commanded withCommand withTorque withSpeed speedRegulated speedGains regulated
+  step-outputs = record {
+    d-top = λ e. leaves-top (mid .integrals .d) (dError d ia ib count) (mid-sound .integrals .d) e;
+    d-bottom = λ e. leaves-bottom (mid .integrals .d) (dError d ia ib count) (mid-sound .integrals .d) e;
+    q-top = λ e. leaves-top (mid .integrals .q) (qError d ia ib count) (mid-sound .integrals .q) e;
+    q-bottom = λ e. leaves-bottom (mid .integrals .q) (qError d ia ib count) (mid-sound .integrals .q) e;
+    speed-top = λ t e.
+        subst (λ (o : ℤ). o <ℤ d .settings .q) (sym (ap (λ c. c .torque) (new-command true t)))
+        (fact.leaves-top (d .integrals .speed) _ (speedGains (d .settings)) (d .settings .q) speed (size.q-lo d met) (within-hi (negℤ (d .settings .q)) (d .settings .q) (d .integrals .speed) (met .integrals .speed)) (subst (λ (k : ℤ). k <ℤ pos 0) (error-is t) e));
+    speed-bottom = λ t e.
+        subst (λ (o : ℤ). negℤ (d .settings .q) <ℤ o) (sym (ap (λ c. c .torque) (new-command true t)))
+        (fact.leaves-bottom (d .integrals .speed) _ (speedGains (d .settings)) (d .settings .q) speed (size.q-lo d met) (within-lo (negℤ (d .settings .q)) (d .settings .q) (d .integrals .speed) (met .integrals .speed)) (subst (λ (k : ℤ). pos 4096 ≤ℤ (k *ℤ d .settings .skp)) (error-is t) e));
+  }
 
   -- ════ the pulses
   abbrev pulses : Pulses
@@ -192,9 +168,13 @@ module _ (d : Drive) (ia ib count : ℤ) (ok : stepped d ia ib count .number ≡
   volts = stepped d ia ib count .voltage
 
   -- the voltage issued, in the stator's frame, is modulated
-  pub voltage-is : volts ≡ inversePark (issued d ia ib count) (sineAt (d .field .angle)) (cosineAt (d .field .angle))
+  voltage-is : volts ≡ inversePark (issued d ia ib count) (sineAt (d .field .angle)) (cosineAt (d .field .angle))
   unfolding advanced driven pulsed outcome issued seen
   voltage-is = ap (λ s. s .voltage) rules
+
+  issued-size : (natAbs (issued d ia ib count .d) ≤ 4096) × (natAbs (issued d ia ib count .q) ≤ 4096)
+  unfolding issued
+  issued-size = kept.asked-size mid (seen d ia ib) mid-sound
 
   pulses-are : pulses ≡ modulated (d .settings .t) (volts .alpha) (volts .beta)
   unfolding advanced driven pulsed outcome withField
@@ -202,36 +182,48 @@ module _ (d : Drive) (ia ib count : ℤ) (ok : stepped d ia ib count .number ≡
       ap (λ s. s .pulses) rules
       ∙ ap₃ modulated (ap (λ s. s .t) (turned-settings d count)) (ap (λ s. s .voltage .alpha) (sym rules)) (ap (λ s. s .voltage .beta) (sym rules))
 
-  pub compares-in-period : AllInPeriod (d .settings .t) pulses
-  compares-in-period =
-      subst (AllInPeriod (d .settings .t)) (sym pulses-are) (compares-within (d .settings .t) (volts .alpha) (volts .beta) (size.period d met .up))
+  step-pulses : PulsesAsAsked d ia ib count
+  step-pulses =
+      let a = d .field .angle in
+      let i = issued d ia ib count in
+      let z = issued-size in
+      record {
+        voltage = voltage-is;
+        alpha-size = subst (λ (v : Stator). natAbs (v .alpha) ≤ 8192) (sym voltage-is) (back-alpha-size 4096 4096 (sineAt a) (cosineAt a) (sine-size a) (cosine-size a) i (z .0) (z .1));
+        beta-size = subst (λ (v : Stator). natAbs (v .beta) ≤ 8192) (sym voltage-is) (back-beta-size 4096 4096 (sineAt a) (cosineAt a) (sine-size a) (cosine-size a) i (z .0) (z .1));
+        in-period = subst (AllInPeriod (d .settings .t)) (sym pulses-are) (compares-within (d .settings .t) (volts .alpha) (volts .beta) (size.period d met .up));
+        near = λ e.
+            subst (AsAsked (d .settings .t) (volts .alpha) (volts .beta)) (sym pulses-are)
+            (on-times (d .settings .t) (volts .alpha) (volts .beta) (ap (λ p. p .clipped) (sym pulses-are) ∙ e));
+      }
 
-  -- unclipped, the on-times differ by what the voltage asks, but for less than 2 counts
-  pub on-times-near : pulses .clipped ≡ false → AsAsked (d .settings .t) (volts .alpha) (volts .beta) pulses
-  on-times-near e =
-      subst (AsAsked (d .settings .t) (volts .alpha) (volts .beta)) (sym pulses-are)
-      (on-times (d .settings .t) (volts .alpha) (volts .beta) (ap (λ p. p .clipped) (sym pulses-are) ∙ e))
+-- ════ of every step, and so of every row: a row is a step of the drive that the rows before it leave
+step-and-row : (Holds : Drive → ℤ → ℤ → ℤ → Type 0) → EachStep Holds → EachStepAndRow Holds
+unfolding rowAt rowStepped
+step-and-row Holds h = (h, λ d samples i ok. h (ranOf d samples i .drive) _ _ _ ok)
+
+pub integrals-between : EachStepAndRow IntegralsBetween
+integrals-between = step-and-row IntegralsBetween step-integrals
+
+pub outputs-leave : EachStepAndRow OutputsLeave
+outputs-leave = step-and-row OutputsLeave step-outputs
+
+pub pulses-as-asked : EachStepAndRow PulsesAsAsked
+pulses-as-asked = step-and-row PulsesAsAsked step-pulses
 
 -- ════ any history: the compares of any step, accepted or refused, and of any row of a run
 in-any-step : (d : Drive) → Sound d → (ia ib count : ℤ) → AllInPeriod (d .settings .t) (stepped d ia ib count .pulses)
-unfolding refused advanced driven pulsed outcome
-in-any-step d h ia ib count = by (d .tripped) (sampleOk ia ib count) refl refl
-  where
-    intact : broken d ≡ false
-    intact = not-broken d .1 h
+unfolding refused
+in-any-step d h ia ib count =
+    let t = d .settings .t in
+    let closed : InPeriod t t = record { lo = size.period d h .up; hi = ≤ℤ-refl t } in
+    by-outcome d ia ib count (λ s. AllInPeriod t (s .pulses)) (λ b. absurd (true≢false (sym b ∙ not-broken d .1 h))) (λ n o e. (closed, closed, closed)) (λ n o. (closed, closed, closed))
+    (λ ok. subst (λ s. AllInPeriod t (s .pulses)) (step-by-the-rules d ia ib count ok) (step-pulses d ia ib count ok .in-period))
 
-    closed : InPeriod (d .settings .t) (d .settings .t)
-    closed = record { lo = size.period d h .up; hi = ≤ℤ-refl (d .settings .t) }
-
-    by : (t s : Bool) → d .tripped ≡ t → sampleOk ia ib count ≡ s → AllInPeriod (d .settings .t) (stepped d ia ib count .pulses)
-    by true s e f = subst (λ r. AllInPeriod (d .settings .t) (r .pulses)) (sym (table.step-tripped d ia ib count intact e)) (closed, closed, closed)
-    by false false e f = subst (λ r. AllInPeriod (d .settings .t) (r .pulses)) (sym (table.step-sampled d ia ib count intact e f)) (closed, closed, closed)
-    by false true e f = compares-in-period d ia ib count (ap (λ r. r .number) (table.step-accepted d ia ib count intact e f))
-
-pub compares-of-any-step : (d : Drive) → History d → (ia ib count : ℤ) → AllInPeriod (d .settings .t) (stepped d ia ib count .pulses)
+pub compares-of-any-step : ComparesOfAnyStep
 compares-of-any-step d r ia ib count = in-any-step d (reached-sound d r) ia ib count
 
-pub compares-of-any-row : (d : Drive) → History d → (samples : List ℤ) (i : ℕ) → AllInPeriod (d .settings .t) (rowAt d samples i .pulses)
+pub compares-of-any-row : ComparesOfAnyRow
 unfolding rowAt rowStepped
 compares-of-any-row d r samples i =
     subst (λ s. AllInPeriod (s .t) (rowAt d samples i .pulses)) (rows-settings d samples i)

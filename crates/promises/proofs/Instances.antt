@@ -5,22 +5,25 @@ use mathlib.Core.Bool.{true, false}
 use mathlib.Core.List.{List, [], _∷_}
 use lib.IntN.{ℤ, pos, _*ℤ_}
 use lib.Signed.{_<ℤ_, _≤ℤ_, ltZ-yes, leZ-yes}
-use Rattle.fixed.specs.Fixed.{down, held, modulo}
+use Rattle.fixed.specs.Fixed.{down, held, modulo, within, inside}
 use Rattle.sine.proofs.AtZero.{sine-at-0, cosine-at-0}
 use Rattle.regulator.specs.Regulator.{sumOf, outOf, nextOf, regulated}
 use Rattle.frames.specs.Frames.{clarke, park, inversePark}
 use Rattle.modulation.specs.Modulation.{entriesOf, bit, numberOf, rowAt, rowOf, timeOf, clippedTimes, timesOf, compareAt, placed, modulated}
-use Rattle.rows.specs.Rows.{none, ranOf, rowsFit}
-use Rattle.shaft.specs.Shaft.{signed, movement, moved, counted, thirtieth, speedOf, measured, rampedTo, sizeOf, weakened}
+use Rattle.rows.specs.Rows.{rowStepped, none, ranOf, rowsFit}
+use Rattle.shaft.specs.Shaft.{signed, movement, moved, counted, thirtieth, speedOf, measured, rampedTo, sizeOf, weakened, shaftOk}
 use Rattle.record.specs.declared.Drive.{Drive}
-use Rattle.record.specs.Bench.{bench}
-use Rattle.record.specs.Record.{periodOk, gainOk, gainsOk, tied, gainsTied, limitsOk, restOk, refusal, accepted, inside, shaftOk, commandOk, fieldOk, integralsOk, sound, broken}
-use Rattle.drive.specs.Step.{speedGains, currentGains, speedRegulated, currentRegulated, rampedBy, withTorque, withSpeed, withCommand, commanded, turned, currents, fieldAfter, dRegulated, qRegulated, voltageOf, voltageFor, withField, advanced, driven, pulsed, outcome}
-use Rattle.drive.specs.Calls.{fresh, sampleOk, tripped, taken, stepped}
-use Rattle.promises.specs.Histories.{Call, History, stepping, aiming, clearing, running, after, afterAll, Quiet}
+use Rattle.settings.specs.Bench.{bench}
+use Rattle.settings.specs.Settings.{periodOk, gainOk, gainsOk, tied, gainsTied, limitsOk, restOk, refusal, accepted}
+use Rattle.field.specs.Field.{fieldOk}
+use Rattle.record.specs.Record.{commandOk, integralsOk, wordsOk, sound, broken, targetEnd}
+use Rattle.stages.specs.Step.{speedGains, currentGains, speedRegulated, currentRegulated, rampedBy, withTorque, withSpeed, withCommand, commanded, turned, currents, fieldAfter, dRegulated, qRegulated, voltageOf, voltageFor, withField, advanced, driven, pulsed, outcome, sampleOk}
+use Rattle.drive.specs.Calls.{fresh, tripped, taken, stepped}
+use Rattle.promises.specs.Histories.{Call, History, stepping, aiming, clearing, running, after, afterAll, rowAt as rowOfRun, Quiet, clears, NoClear}
 use Rattle.promises.specs.Words.{seen, dError, qError, next, speedError}
 use Rattle.promises.specs.Bench.{waiting, spoiled, untied}
-use Rattle.promises.proofs.Demand1 as table
+use Rattle.promises.proofs.Demand1.{target-table, clear-table, run-table}
+use Rattle.promises.proofs.Window.{quiet-no-clear}
 
 pub bench-accepted : accepted bench ≡ true
 unfolding bench accepted refusal periodOk gainsOk gainOk gainsTied tied limitsOk restOk
@@ -38,7 +41,7 @@ untied-refused = refl
 
 -- a record that is not broken, of a drive that is not tripped
 pub waiting-intact : (broken (waiting (pos 0)) ≡ false) × (waiting (pos 0) .tripped ≡ false)
-unfolding waiting bench accepted refusal periodOk gainsOk gainOk gainsTied tied limitsOk restOk sound broken shaftOk commandOk fieldOk integralsOk inside
+unfolding waiting bench accepted refusal periodOk gainsOk gainOk gainsTied tied limitsOk restOk sound wordsOk broken shaftOk commandOk fieldOk integralsOk inside
 waiting-intact = (refl, refl)
 
 -- accepted steps of one, which are ticks; and one of a fresh drive, which is none
@@ -46,7 +49,7 @@ abbrev Takes : Drive → ℤ → ℤ → Type 0
 Takes d ia ib = stepped d ia ib (pos 7) .number ≡ pos 0
 
 pub waiting-takes : Takes (waiting (pos 0)) (pos 0) (pos 0) × Takes (waiting (pos 0)) (pos 3000) (pos 0) × Takes (waiting (pos 0)) (pos 0) (pos 8191) × Takes (waiting (pos 16384)) (pos 0) (pos 0)
-unfolding waiting bench accepted refusal periodOk gainsOk gainOk gainsTied tied limitsOk restOk sound broken shaftOk commandOk fieldOk integralsOk inside stepped taken sampleOk advanced driven pulsed outcome
+unfolding waiting bench accepted refusal periodOk gainsOk gainOk gainsTied tied limitsOk restOk sound wordsOk broken shaftOk commandOk fieldOk integralsOk inside stepped taken sampleOk advanced driven pulsed outcome
 waiting-takes = (refl, refl, refl, refl)
 
 pub waiting-ticks : (thirtieth (waiting (pos 0) .shaft) ≡ true) × (thirtieth (waiting (pos 16384) .shaft) ≡ true)
@@ -54,23 +57,23 @@ unfolding waiting thirtieth
 waiting-ticks = (refl, refl)
 
 pub fresh-takes : Takes (fresh bench) (pos 0) (pos 0) × (thirtieth (fresh bench .shaft) ≡ false)
-unfolding fresh thirtieth bench accepted refusal periodOk gainsOk gainOk gainsTied tied limitsOk restOk sound broken shaftOk commandOk fieldOk integralsOk inside stepped taken sampleOk advanced driven pulsed outcome
+unfolding fresh thirtieth bench accepted refusal periodOk gainsOk gainOk gainsTied tied limitsOk restOk sound wordsOk broken shaftOk commandOk fieldOk integralsOk inside stepped taken sampleOk advanced driven pulsed outcome
 fresh-takes = (refl, refl)
 
 -- records that are refused: broken, tripped; and samples and a target out of range
 pub spoiled-broken : broken spoiled ≡ true
-unfolding spoiled waiting bench accepted refusal periodOk gainsOk gainOk gainsTied tied limitsOk restOk sound broken shaftOk commandOk fieldOk integralsOk inside
+unfolding spoiled waiting bench accepted refusal periodOk gainsOk gainOk gainsTied tied limitsOk restOk sound wordsOk broken shaftOk commandOk fieldOk integralsOk inside
 spoiled-broken = refl
 
 pub tripped-sound : (broken (tripped (waiting (pos 0))) ≡ false) × (tripped (waiting (pos 0)) .tripped ≡ true)
-unfolding tripped waiting bench accepted refusal periodOk gainsOk gainOk gainsTied tied limitsOk restOk sound broken shaftOk commandOk fieldOk integralsOk inside
+unfolding tripped waiting bench accepted refusal periodOk gainsOk gainOk gainsTied tied limitsOk restOk sound wordsOk broken shaftOk commandOk fieldOk integralsOk inside
 tripped-sound = (refl, refl)
 
 pub samples-refused : sampleOk (pos 8192) (pos 0) (pos 0) ≡ false
 unfolding sampleOk inside
 samples-refused = refl
 
-pub target-refused : inside (pos 8191) (pos 8192) ≡ false
+pub target-refused : inside (pos targetEnd) (pos 8192) ≡ false
 unfolding inside
 target-refused = refl
 
@@ -90,7 +93,7 @@ module _ (d : Drive) (t : d .tripped ≡ false) where
   past c cs e q = (ap (λ d. d .command .target) e, ap (λ d. d .tripped) e ∙ t, subst (λ d. Quiet d cs) (sym e) q)
 
 step-quiet : Quiet (waiting (pos 0)) (stepping (pos 0) (pos 0) (pos 7) ∷ [])
-unfolding Quiet after waiting bench accepted refusal periodOk gainsOk gainOk gainsTied tied limitsOk restOk sound broken shaftOk commandOk fieldOk integralsOk inside stepped taken sampleOk advanced driven pulsed outcome withField turned thirtieth commanded withCommand withTorque rampedBy
+unfolding Quiet after waiting bench accepted refusal periodOk gainsOk gainOk gainsTied tied limitsOk restOk sound wordsOk broken shaftOk commandOk fieldOk integralsOk inside stepped taken sampleOk advanced driven pulsed outcome withField turned thirtieth commanded withCommand withTorque rampedBy
 step-quiet = (refl, refl, tt)
 
 pub waiting-quiet : Quiet (waiting (pos 0)) (aiming (pos 8192) ∷ clearing ∷ running [] [] ∷ stepping (pos 0) (pos 0) (pos 7) ∷ [])
@@ -98,10 +101,23 @@ unfolding after ranOf none
 waiting-quiet =
     let b = waiting-intact .0 in
     let t = waiting-intact .1 in
-    let far = ap (λ s. s .drive) (table.target-far (waiting (pos 0)) (pos 8192) b t target-refused) in
-    let uncleared = ap (λ s. s .drive) (table.clear-untripped (waiting (pos 0)) b t) in
-    let unmoved = ap (λ r. r .drive) (table.run-accepted (waiting (pos 0)) [] [] b no-rows-fit .0) in
+    let far = ap (λ s. s .drive) (target-table (waiting (pos 0)) (pos 8192) .then 2 (b, (t, target-refused))) in
+    let uncleared = ap (λ s. s .drive) (clear-table (waiting (pos 0)) .then 1 (b, t)) in
+    let unmoved = ap (λ r. r .0 .drive) (run-table (waiting (pos 0)) [] [] .then 2 (b, (no-rows-fit, tt))) in
     past (waiting (pos 0)) t _ _ far (past (waiting (pos 0)) t _ _ uncleared (past (waiting (pos 0)) t _ _ unmoved step-quiet))
+
+-- calls with no accepted clear, and a clear that is accepted
+pub waiting-no-clear : NoClear (waiting (pos 0)) (aiming (pos 8192) ∷ clearing ∷ running [] [] ∷ stepping (pos 0) (pos 0) (pos 7) ∷ [])
+waiting-no-clear = quiet-no-clear (waiting (pos 0)) _ (waiting-intact .0) (waiting-intact .1) waiting-quiet
+
+pub tripped-clears : clears (tripped (waiting (pos 0))) clearing ≡ true
+unfolding clears
+tripped-clears = ap (λ a. within (pos 0) (pos 0) (a .number)) (clear-table (tripped (waiting (pos 0))) .then 2 (tripped-sound .0, (tripped-sound .1, tt)))
+
+-- a row that is accepted, and is a tick
+pub row-takes : rowOfRun (waiting (pos 0)) (pos 0 ∷ pos 0 ∷ pos 7 ∷ []) 0 .number ≡ pos 0
+unfolding rowOfRun rowStepped ranOf none
+row-takes = waiting-takes .0
 
 -- errors of either sign, in steps that are accepted above. At angle 0 the sine is 0 and the cosine 4096, so that d is ia; ib is chosen so that q is 0, or as large as it may be
 pub d-negative : dError (waiting (pos 0)) (pos 3000) (pos 0) (pos 7) <ℤ pos 0
@@ -122,14 +138,14 @@ q-worth-a-count = rw (cosine-at-0, sine-at-0) (leZ-yes tt)
 
 -- the speed error, of a shaft that turns and of one that stands
 pub speed-negative : speedError (waiting (pos 16384)) (pos 0) (pos 0) (pos 7) <ℤ pos 0
-unfolding speedError next stepped taken broken sound accepted refusal periodOk gainsOk gainOk gainsTied tied limitsOk restOk shaftOk commandOk fieldOk integralsOk inside sampleOk advanced driven pulsed outcome withField turned commanded withCommand withTorque rampedBy rampedTo thirtieth counted measured moved movement signed modulo down speedOf held waiting bench
+unfolding speedError next stepped taken broken sound wordsOk accepted refusal periodOk gainsOk gainOk gainsTied tied limitsOk restOk shaftOk commandOk fieldOk integralsOk inside sampleOk advanced driven pulsed outcome withField turned commanded withCommand withTorque rampedBy rampedTo thirtieth counted measured moved movement signed modulo down speedOf held waiting bench
 speed-negative = ltZ-yes tt
 
 pub speed-worth-a-count : pos 4096 ≤ℤ (speedError (waiting (pos 0)) (pos 0) (pos 0) (pos 7) *ℤ waiting (pos 0) .settings .skp)
-unfolding speedError next stepped taken broken sound accepted refusal periodOk gainsOk gainOk gainsTied tied limitsOk restOk shaftOk commandOk fieldOk integralsOk inside sampleOk advanced driven pulsed outcome withField turned commanded withCommand withTorque rampedBy rampedTo thirtieth counted measured moved movement signed modulo down speedOf held waiting bench
+unfolding speedError next stepped taken broken sound wordsOk accepted refusal periodOk gainsOk gainOk gainsTied tied limitsOk restOk shaftOk commandOk fieldOk integralsOk inside sampleOk advanced driven pulsed outcome withField turned commanded withCommand withTorque rampedBy rampedTo thirtieth counted measured moved movement signed modulo down speedOf held waiting bench
 speed-worth-a-count = leZ-yes tt
 
 -- a step that is not clipped
 pub unclipped : stepped (waiting (pos 0)) (pos 0) (pos 0) (pos 7) .pulses .clipped ≡ false
-unfolding stepped taken sampleOk advanced driven pulsed outcome withField fieldAfter voltageFor voltageOf dRegulated qRegulated currentRegulated currentGains turned commanded withCommand withTorque withSpeed rampedBy speedRegulated speedGains regulated outOf nextOf sumOf rampedTo thirtieth counted measured moved movement signed modulo down speedOf held weakened sizeOf currents clarke park inversePark modulated placed compareAt timesOf clippedTimes timeOf rowOf rowAt numberOf bit entriesOf waiting bench accepted refusal periodOk gainsOk gainOk gainsTied tied limitsOk restOk sound broken shaftOk commandOk fieldOk integralsOk inside
+unfolding stepped taken sampleOk advanced driven pulsed outcome withField fieldAfter voltageFor voltageOf dRegulated qRegulated currentRegulated currentGains turned commanded withCommand withTorque withSpeed rampedBy speedRegulated speedGains regulated outOf nextOf sumOf rampedTo thirtieth counted measured moved movement signed modulo down speedOf held weakened sizeOf currents clarke park inversePark modulated placed compareAt timesOf clippedTimes timeOf rowOf rowAt numberOf bit entriesOf waiting bench accepted refusal periodOk gainsOk gainOk gainsTied tied limitsOk restOk sound wordsOk broken shaftOk commandOk fieldOk integralsOk inside
 unclipped = rw (cosine-at-0, sine-at-0) refl

@@ -1,10 +1,11 @@
-pub mod Ladders
 pub mod Demand1
 pub mod Keeping
 pub mod Demand2
 pub mod Demand3
 pub mod Onward
-pub mod Reached
+pub mod Ramp
+pub mod Window
 pub mod Starred
-pub mod Unique
 pub mod Instances
+pub mod Settled
+pub mod InPlace

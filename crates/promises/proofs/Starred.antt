@@ -1,18 +1,13 @@
 -- The eleven starred cases of document 01, one list under one claim, of the definitions themselves: the checker computes each.
 -- Assumes nothing.
-use mathlib.Core.Path.{_≡_, refl}
-use lib.ListN.{length}
+use mathlib.Core.Path.{refl}
 use Rattle.fixed.specs.Fixed.{down, modulo, held}
 use Rattle.regulator.specs.Regulator.{sumOf, outOf, nextOf, regulated}
 use Rattle.frames.specs.Frames.{clarke}
 use Rattle.field.specs.Field.{fluxNext, angleNext}
 use Rattle.modulation.specs.Modulation.{entriesOf, bit, numberOf, rowAt, rowOf, timeOf, clippedTimes, timesOf, compareAt, placed, modulated}
-use Rattle.promises.specs.Starred.{cases, AllHold}
+use Rattle.promises.specs.Starred.{cases, AllHold, StarredHold}
 
-pub eleven : length cases ≡ 11
-unfolding cases
-eleven = refl
-
-pub starred : AllHold cases
+pub starred : StarredHold
 unfolding cases AllHold down modulo held sumOf outOf nextOf regulated clarke fluxNext angleNext entriesOf bit numberOf rowAt rowOf timeOf clippedTimes timesOf compareAt placed modulated
-starred = (refl, (refl, (refl, (refl, (refl, (refl, (refl, (refl, (refl, (refl, (refl, tt)))))))))))
+starred = (refl, (refl, (refl, (refl, (refl, (refl, (refl, (refl, (refl, (refl, (refl, (refl, tt))))))))))))

@@ -1,9 +1,9 @@
 -- Drives with 01's bench set, at which the promises' hypotheses are met.
 use mathlib.Core.Bool.{true, false}
 use lib.IntN.{ℤ, pos}
-use Rattle.record.specs.declared.Settings.{Settings}
+use Rattle.settings.specs.declared.Settings.{Settings}
 use Rattle.record.specs.declared.Drive.{Drive}
-use Rattle.record.specs.Bench.{benchWith, bench}
+use Rattle.settings.specs.Bench.{benchWith, bench}
 
 -- before a tick: 29 steps in the window, in which the shaft moved by the sum; the target 100 away
 unfoldable pub waiting : ℤ → Drive

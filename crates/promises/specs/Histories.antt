@@ -3,14 +3,15 @@ use mathlib.Core.Path.{_≡_}
 use mathlib.Core.Bool.{Bool, true, false, cond, _&&_}
 use mathlib.Core.List.{List, [], _∷_}
 use Prim.Native.Nat.{ℕ, zero, suc, _+_, _-_, _/_}
-use lib.IntN.{ℤ, natAbs, _-ℤ_}
+use lib.IntN.{ℤ, pos, natAbs, _-ℤ_}
 use lib.ListN.{length}
+use Rattle.fixed.specs.Fixed.{within}
 use Rattle.shaft.specs.Shaft.{thirtieth}
-use Rattle.record.specs.declared.Settings.{Settings}
+use Rattle.settings.specs.declared.Settings.{Settings}
 use Rattle.record.specs.declared.Drive.{Drive}
-use Rattle.record.specs.Record.{accepted}
+use Rattle.settings.specs.Settings.{accepted}
 use Rattle.drive.specs.Calls.{fresh, stepped, targeted, cleared}
-use Rattle.drive.specs.declared.Stepped.{Stepped}
+use Rattle.stages.specs.declared.Stepped.{Stepped}
 use Rattle.rows.specs.Rows.{rowStepped, isAccepted, one, ranOf, rowsIn, rowsFit, runOf}
 
 -- a call with its numbers; a run has samples and the output that is lent to it
@@ -80,6 +81,22 @@ stepsIn d (running samples out) = runOf d samples out .accepted
 unfoldable pub stepsOf : Drive → List Call → ℕ
 stepsOf d [] = 0
 stepsOf d (c ∷ cs) = stepsIn d c + stepsOf (after d c) cs
+
+-- an accepted clear, after which the drive is fresh
+unfoldable pub clears : Drive → Call → Bool
+clears d (stepping ia ib count) = false
+clears d (aiming wanted) = false
+clears d clearing = within (pos 0) (pos 0) (cleared d .number)
+clears d (running samples out) = false
+
+unfoldable pub NoClear : Drive → List Call → Type 0
+NoClear d [] = Unit
+NoClear d (c ∷ cs) = (clears d c ≡ false) × NoClear (after d c) cs
+
+-- a count over calls that starts at n, and anew at each accepted clear
+unfoldable pub since : (Drive → Call → ℕ) → ℕ → Drive → List Call → ℕ
+since count n d [] = n
+since count n d (c ∷ cs) = since count (cond (clears d c) 0 (n + count d c)) (after d c) cs
 
 -- gap/R, rounded up
 abbrev pub roundedUp : ℕ → ℕ → ℕ

@@ -1,4 +1,11 @@
+pub mod Table
+pub mod Demand1
 pub mod Histories
+pub mod Demand2
 pub mod Words
+pub mod Demand3
+pub mod Ramp
 pub mod Starred
 pub mod Bench
+pub mod Settled
+pub mod InPlace

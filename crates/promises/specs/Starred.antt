@@ -2,6 +2,7 @@
 use mathlib.Core.Path.{_≡_}
 use mathlib.Core.List.{List, [], _∷_}
 use lib.IntN.{ℤ, pos, negsuc}
+use lib.ListN.{length}
 use Rattle.regulator.specs.declared.Gains.{Gains}
 use Rattle.regulator.specs.declared.Regulated.{Regulated}
 use Rattle.regulator.specs.Regulator.{regulated}
@@ -51,3 +52,7 @@ cases =
 unfoldable pub AllHold : List Case → Type 0
 AllHold [] = Unit
 AllHold (c ∷ cs) = (c .got ≡ c .wanted) × AllHold cs
+
+-- "starred cases (11), gathered as one list under one claim"
+abbrev pub StarredHold : Type 0
+StarredHold = (length cases ≡ 11) × AllHold cases

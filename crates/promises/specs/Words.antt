@@ -1,19 +1,11 @@
--- The words that the demands are said in, as the rules name them.
-use mathlib.Core.Path.{_≡_}
-use mathlib.Core.Bool.{false}
-use lib.IntN.{ℤ, pos, _-ℤ_}
-use Rattle.fixed.specs.Fixed.{within}
+-- The words that demand 3 is said in, as the rules name them.
+use lib.IntN.{ℤ, _-ℤ_}
 use Rattle.sine.specs.Sine.{sineAt, cosineAt}
 use Rattle.frames.specs.declared.Rotor.{Rotor}
 use Rattle.record.specs.declared.Drive.{Drive}
-use Rattle.drive.specs.Step.{turned, currents, voltageFor}
+use Rattle.stages.specs.Step.{turned, currents, voltageFor}
 use Rattle.drive.specs.Calls.{stepped}
 
--- ════ demand 1: numbers 11 to 13 are kept free
-abbrev pub Free : ℤ → Type 0
-Free number = within (pos 11) (pos 13) number ≡ false
-
--- ════ demand 3: the words of an accepted step
 -- the currents d and q, seen at the old angle
 unfoldable pub seen : Drive → ℤ → ℤ → Rotor
 seen d ia ib = currents ia ib (sineAt (d .field .angle)) (cosineAt (d .field .angle))

@@ -5,7 +5,7 @@ use denote.Struct.Struct.{AreAll}
 use denote.Struct.Declared.{fields}
 use Rattle.record.specs.declared.Drive.{Drive}
 use Rattle.record.proofs.Drive.{the-type}
-use Rattle.record.proofs.SettingsTold.{told as settings-told, Back as settings-Back}
+use Rattle.settings.proofs.SettingsTold.{told as settings-told, Back as settings-Back}
 use Rattle.shaft.proofs.ShaftTold.{told as shaft-told, Back as shaft-Back}
 use Rattle.record.proofs.CommandTold.{told as command-told, Back as command-Back}
 use Rattle.field.proofs.FieldTold.{told as field-told, Back as field-Back}

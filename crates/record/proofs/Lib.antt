@@ -1,6 +1,4 @@
-pub mod SettingsTold
 pub mod CommandTold
 pub mod IntegralsTold
 pub mod DriveTold
-pub mod Asked
 pub mod Ranges

@@ -1,3 +1,4 @@
 pub mod Fact
 pub mod Cases
 pub mod RegulatedTold
+pub mod Limits

@@ -1,5 +1,5 @@
 -- The regulator (document 01, "Regulator"): one rule, which serves speed, d and q.
-use Prim.Native.Nat.{_≤_}
+use Prim.Native.Nat.{ℕ, _≤_}
 use mathlib.Core.Path.{_≡_}
 use lib.IntN.{ℤ, pos, negℤ, natAbs, _+ℤ_, _-ℤ_, _*ℤ_}
 use lib.Signed.{_≤ℤ_}
@@ -31,12 +31,19 @@ pub record Lawful (g : Gains) : Type 0 where
   pub kcor-hi : g .kcor ≤ℤ pos 4096
   pub tied : pos 4096 *ℤ g .ki ≡ g .kp *ℤ g .kcor
 
+-- the size of limits, and so of integrals and outputs; and of errors
+abbrev pub widest : ℕ
+widest = 8191
+
+abbrev pub errorEnd : ℕ
+errorEnd = 32767
+
 -- what the code asks of its numbers, so that nothing overflows
 pub record Sized (x e : ℤ) (g : Gains) (limit : ℤ) : Type 0 where
-  pub x-size : natAbs x ≤ 8191
-  pub e-size : natAbs e ≤ 32767
+  pub x-size : natAbs x ≤ widest
+  pub e-size : natAbs e ≤ errorEnd
   pub kp-size : natAbs (g .kp) ≤ 32767
   pub kcor-size : natAbs (g .kcor) ≤ 4096
   pub ki-size : natAbs (g .ki) ≤ 32767
-  pub limit-size : natAbs limit ≤ 8191
+  pub limit-size : natAbs limit ≤ widest
   pub limits : negℤ limit ≤ℤ limit

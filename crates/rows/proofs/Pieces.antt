@@ -13,7 +13,7 @@ use lib.Seq.{getD-append-add}
 use Rattle.record.specs.declared.Drive.{Drive}
 use Rattle.record.specs.Record.{broken}
 use Rattle.record.proofs.Ranges.{not-broken}
-use Rattle.drive.specs.declared.Stepped.{Stepped}
+use Rattle.stages.specs.declared.Stepped.{Stepped}
 use Rattle.rows.specs.declared.Ran.{Ran}
 use Rattle.rows.specs.Rows.{rowStepped, four, none, afterRow, ranOf, writtenOf, rowsIn, rowsFit, runOf}
 use Rattle.rows.proofs.Runs.{rows-sound}

@@ -10,7 +10,7 @@ use lib.IntN.{ℤ, pos}
 use lib.ListN.{length, take, drop, length-append}
 use Rattle.record.specs.declared.Drive.{Drive}
 use Rattle.record.proofs.Ranges.{Sound}
-use Rattle.drive.specs.declared.Stepped.{Stepped}
+use Rattle.stages.specs.declared.Stepped.{Stepped}
 use Rattle.drive.proofs.Kept.{stepped-sound}
 use Rattle.rows.specs.declared.Ran.{Ran}
 use Rattle.rows.specs.Rows.{rowStepped, four, isAccepted, isClipped, one, none, afterRow, ranOf, writtenOf}

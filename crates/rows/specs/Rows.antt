@@ -8,7 +8,7 @@ use lib.IntN.{ℤ, pos}
 use Rattle.fixed.specs.Fixed.{within}
 use Rattle.record.specs.declared.Drive.{Drive}
 use Rattle.record.specs.Record.{broken}
-use Rattle.drive.specs.declared.Stepped.{Stepped}
+use Rattle.stages.specs.declared.Stepped.{Stepped}
 use Rattle.drive.specs.Calls.{stepped}
 use Rattle.rows.specs.declared.Ran.{Ran}
 

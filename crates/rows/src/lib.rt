@@ -19,8 +19,9 @@ ghost use Rattle.rows.specs.Rows.{
   runOf,
   outOf,
 };
-use drive::Stepped;
 use record::Drive;
+use settings::Checked;
+use stages::Stepped;
 
 // What a run answers: the drive after it, the run's own number, the count of accepted steps and of clipped ones among them.
 pub struct Ran {
@@ -121,10 +122,10 @@ fn rows_fit(samples: usize, out: usize) -> bool
 pub fn run(d: Drive, samples: &[i32], out: &mut [i32]) -> Ran
     ensures { λ r. ⌜ (r ≡ runOf d (now (samples .entry)) (now (out .entry))) × (now (out .exit) ≡ outOf d (now (samples .entry)) (now (out .entry))) ⌝ }
 {
-    let drive::Made::Ready(_) = drive::make(d.settings) else {
+    let Checked::Accepted(_) = settings::check(d.settings) else {
         return none(d, 14);
     };
-    if !record::sound(d) {
+    if !record::words_ok(d) {
         return none(d, 14);
     }
     if !rows_fit(samples.len(), out.len()) {

@@ -11,6 +11,7 @@ ghost use Rattle.stream.specs.Streaming.{asFed, rowsFed, rowsText};
 ghost use Rattle.sine.specs.Sine.{sineTable};
 ghost use Rattle.record.specs.Record.{sound as soundOf};
 use pipes::Got;
+use settings::Checked;
 use stream::Stream;
 
 // What a turn leaves: the stream; whether the read failed; whether all that was written was sent; whether to go on.
@@ -58,9 +59,10 @@ fn read_through(first: Turned, bytes: &mut [u8], table: &sine::Table, out: &mut 
 
 // Where a read or a write failed words on standard error say so, and no totals are written: nobody takes what stands for the whole.
 fn main() {
-    let drive::Made::Ready(d) = drive::make(record::bench()) else {
+    let Checked::Accepted(s) = settings::check(settings::bench()) else {
         return;
     };
+    let d = drive::fresh(s);
     let table = sine::table();
     let mut bytes = [0u8; 4096];
     // 48 places for each of them, as the stream asks

@@ -2,9 +2,9 @@
 // run's number; and the output after it, of which the run was lent a part, and which was 7 in every place.
 ghost use Prim.Native.Nat.{_≤_};
 ghost use lib.ListN.{length};
-use drive::Made;
 use record::Drive;
 use rows::Ran;
+use settings::Checked;
 
 // A run that is lent the first so many of the answers.
 fn run_into(d: Drive, samples: &[i32], answers: &mut [i32], lent: usize) -> Ran
@@ -49,9 +49,10 @@ fn tripped(d: Drive) -> Drive {
 }
 
 fn main() {
-    let Made::Ready(d) = drive::make(record::bench()) else {
+    let Checked::Accepted(s) = settings::check(settings::bench()) else {
         return;
     };
+    let d = drive::fresh(s);
     let samples = [0i32, 0, 0, 9000, 0, 0];
     let mut out = [0u8; 150];
     ran(d, &samples, 8, &mut out);

@@ -4,3 +4,4 @@ pub mod Window
 pub mod Ramp
 pub mod Weakening
 pub mod Cases
+pub mod ShaftRanges

@@ -16,7 +16,7 @@ use Rattle.fixed.proofs.Size.{abs-+, abs←}
 use Rattle.fixed.proofs.DownLaws.{modulo-lo, modulo-hi}
 use Rattle.fixed.proofs.HeldLaws.{held-size, within-lo, within-hi}
 use Rattle.shaft.specs.declared.Shaft.{Shaft}
-use Rattle.shaft.specs.Shaft.{signed, movement, moved, counted, thirtieth, speedOf}
+use Rattle.shaft.specs.Shaft.{signed, movement, moved, counted, thirtieth, speedOf, fastest}
 
 -- ════ one movement
 signed-cases : (Q : ℤ → Type 0) (m : ℤ) → (m <ℤ pos 32768 → Q m) → (pos 32768 ≤ℤ m → Q (m -ℤ pos 65536)) → Q (signed m)
@@ -80,6 +80,6 @@ steps-room s count h k e =
     (eq-or-lt-of-le k)
 
 -- ════ the speed
-pub speed-size : (sum kn : ℤ) → natAbs (speedOf sum kn) ≤ 16383
+pub speed-size : (sum kn : ℤ) → natAbs (speedOf sum kn) ≤ fastest
 unfolding speedOf
-speed-size sum kn = held-size (down (sum *ℤ kn) (pos 256)) 16383
+speed-size sum kn = held-size (down (sum *ℤ kn) (pos 256)) fastest

@@ -1,12 +1,28 @@
 -- Encoder, window, speed, ramp and field weakening: rules 1 and 2 of document 01, but for the speed regulator.
-use Prim.Native.Nat.{ℕ, zero, suc, _≤_}
+use Prim.Native.Nat.{ℕ, zero, suc, _*_, _≤_}
 use mathlib.Core.Path.{_≡_}
-use mathlib.Core.Bool.{Bool, true, cond}
+use mathlib.Core.Bool.{Bool, true, false, cond, _&&_}
 use lib.IntN.{ℤ, pos, negℤ, natAbs, _+ℤ_, _-ℤ_, _*ℤ_}
 use lib.Signed.{ltZ, leZ}
-use Rattle.fixed.specs.Fixed.{down, modulo, held, within}
+use Rattle.fixed.specs.Fixed.{down, modulo, held, within, inside, Range, isIn}
 use Rattle.shaft.specs.declared.Shaft.{Shaft}
 
+-- ════ the sizes
+-- a count, and the steps in the window
+abbrev pub counts : Range
+counts = record { lo = 0; hi = 65535 }
+
+abbrev pub window : Range
+window = record { lo = 0; hi = 29 }
+
+-- the largest movement of a step, and the highest speed
+abbrev pub farthest : ℕ
+farthest = 32768
+
+abbrev pub fastest : ℕ
+fastest = 16383
+
+-- ════ rules 1 and 2
 -- 0..32767 as it is, 32768..65535 less 65536
 unfoldable pub signed : ℤ → ℤ
 signed m = cond (ltZ m (pos 32768)) m (m -ℤ pos 65536)
@@ -26,11 +42,11 @@ counted s count =
 
 -- a step is a 30th exactly when the steps in the window are 29 before it
 unfoldable pub thirtieth : Shaft → Bool
-thirtieth s = within (pos 29) (pos 29) (s .steps)
+thirtieth s = within (pos (window .hi)) (pos (window .hi)) (s .steps)
 
 -- speed n = sum·Kn/256 down, held to ±16383
 unfoldable pub speedOf : ℤ → ℤ → ℤ
-speedOf sum kn = held (down (sum *ℤ kn) (pos 256)) (negℤ (pos 16383)) (pos 16383)
+speedOf sum kn = held (down (sum *ℤ kn) (pos 256)) (negℤ (pos fastest)) (pos fastest)
 
 -- the speed of the window, and the window restarts
 unfoldable pub measured : Shaft → ℤ → Shaft
@@ -54,11 +70,24 @@ sizeOf n = pos (natAbs n)
 unfoldable pub weakened : ℤ → ℤ → ℤ
 weakened f n = cond (leZ (sizeOf n) (pos 4096)) f (down (f *ℤ pos 4096) (sizeOf n))
 
--- what the code asks of its numbers
+-- ════ the shaft's words
+-- no count seen yet, an empty window, no speed
+abbrev pub unmoved : Shaft
+unmoved = record { count = pos 0; seen = false; sum = pos 0; steps = pos 0; speed = pos 0 }
+
+-- stored count 0..65535, steps in the window 0..29, movement sum within ±32768 times them, speed ±16383
+unfoldable pub shaftOk : Shaft → Bool
+shaftOk s =
+    isIn counts (s .count)
+    && isIn window (s .steps)
+    && inside (pos farthest *ℤ s .steps) (s .sum)
+    && inside (pos fastest) (s .speed)
+
+-- ════ what the code asks of its numbers
 abbrev pub Count : ℤ → Type 0
-Count c = within (pos 0) (pos 65535) c ≡ true
+Count c = isIn counts c ≡ true
 
 pub record Sized (s : Shaft) : Type 0 where
   pub count : Count (s .count)
-  pub sum : natAbs (s .sum) ≤ 950272
-  pub steps : natAbs (s .steps) ≤ 29
+  pub sum : natAbs (s .sum) ≤ farthest * window .hi
+  pub steps : natAbs (s .steps) ≤ window .hi

@@ -14,9 +14,17 @@ ghost use Rattle.shaft.specs.Shaft.{
   rampedTo,
   sizeOf,
   weakened as weakenedOf,
+  fastest,
+  unmoved as unmovedOf,
+  shaftOk,
   Count,
   Sized,
 };
+
+// The highest speed, and the highest backwards.
+const FASTEST: i32 = 16383;
+
+const BACKWARDS: i32 = -FASTEST;
 
 // What is known of the shaft: the last count and whether there was one, the movements and steps of the window, the speed.
 #[repr(C)]
@@ -78,7 +86,7 @@ pub fn thirtieth(s: Shaft) -> bool
 pub fn speed_of(sum: i32, kn: i32) -> i32
     ensures { λ r. ⌜ r ≡ speedOf sum kn ⌝ }
 {
-    fixed::hold_to(fixed::scaled(sum, kn, 256), 16383)
+    fixed::hold_to(fixed::scaled(sum, kn, 256), FASTEST)
 }
 
 // The speed of the window, which restarts.
@@ -104,7 +112,7 @@ pub fn ramped_to(reference: i32, target: i32, r: i32) -> i32
 }
 
 fn size(n: i32) -> i32
-    requires { ⌜ natAbs n ≤ 16383 ⌝ }
+    requires { ⌜ natAbs n ≤ fastest ⌝ }
     ensures { λ r. ⌜ r ≡ sizeOf n ⌝ }
 {
     if n < 0 { -n } else { n }
@@ -112,7 +120,7 @@ fn size(n: i32) -> i32
 
 // The flux reference: above speed 1.0 it falls as the speed rises, so that the voltage suffices.
 pub fn weakened(f: i32, n: i32) -> i32
-    requires { ⌜ (natAbs f ≤ 8191) × (natAbs n ≤ 16383) ⌝ }
+    requires { ⌜ (natAbs f ≤ 8191) × (natAbs n ≤ fastest) ⌝ }
     ensures { λ r. ⌜ r ≡ weakenedOf f n ⌝ }
 {
     let m = size(n);
@@ -121,4 +129,27 @@ pub fn weakened(f: i32, n: i32) -> i32
     } else {
         fixed::scaled(f, 4096, m) as i32
     }
+}
+
+// The shaft of a fresh drive.
+pub fn unmoved() -> Shaft
+    ensures { λ r. ⌜ r ≡ unmovedOf ⌝ }
+{
+    Shaft {
+        count: 0,
+        seen: false,
+        sum: 0,
+        steps: 0,
+        speed: 0,
+    }
+}
+
+// Whether the words of any shaft are in range.
+pub fn shaft_ok(s: Shaft) -> bool
+    ensures { λ r. ⌜ r ≡ shaftOk s ⌝ }
+{
+    fixed::within(0, 65535, s.count)
+        & fixed::within(0, 29, s.steps)
+        & fixed::inside(fixed::times(32768, s.steps), s.sum)
+        & fixed::within(BACKWARDS, FASTEST, s.speed)
 }

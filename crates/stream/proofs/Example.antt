@@ -6,18 +6,19 @@ use mathlib.Core.List.{List, [], _∷_, _++_}
 use mathlib.Core.Option.{some}
 use Prim.Native.Nat.{ℕ}
 use lib.IntN.{ℤ, pos}
-use Rattle.fixed.specs.Fixed.{down, held, modulo}
+use Rattle.fixed.specs.Fixed.{down, held, modulo, inside}
 use Rattle.sine.proofs.AtZero.{sine-at-0, cosine-at-0}
 use Rattle.regulator.specs.Regulator.{sumOf, outOf as issued, nextOf, regulated}
 use Rattle.frames.specs.Frames.{clarke, park, inversePark}
-use Rattle.field.specs.Field.{fluxNext, slip, angleNext, followed}
-use Rattle.shaft.specs.Shaft.{signed, movement, moved, counted, thirtieth, speedOf, measured, rampedTo, sizeOf, weakened}
+use Rattle.field.specs.Field.{fluxNext, slip, angleNext, followed, fieldOk}
+use Rattle.shaft.specs.Shaft.{signed, movement, moved, counted, thirtieth, speedOf, measured, rampedTo, sizeOf, weakened, shaftOk}
 use Rattle.modulation.specs.Modulation.{entriesOf, bit, numberOf, rowAt, rowOf, timeOf, clippedTimes, timesOf, compareAt, placed, modulated}
 use Rattle.record.specs.declared.Drive.{Drive}
-use Rattle.record.specs.Bench.{bench}
-use Rattle.record.specs.Record.{periodOk, gainOk, gainsOk, tied, gainsTied, limitsOk, restOk, refusal, accepted, inside, shaftOk, commandOk, fieldOk, integralsOk, sound, broken}
-use Rattle.drive.specs.Step.{speedGains, currentGains, speedRegulated, currentRegulated, rampedBy, withTorque, withShaft, withSpeed, withCommand, commanded, turned, currents, fieldAfter, dRegulated, qRegulated, voltageOf, voltageFor, withField, advanced, driven, pulsed, outcome}
-use Rattle.drive.specs.Calls.{fresh, sampleOk, tripped, refused, taken, stepped}
+use Rattle.settings.specs.Bench.{bench}
+use Rattle.settings.specs.Settings.{periodOk, gainOk, gainsOk, tied, gainsTied, limitsOk, restOk, refusal, accepted}
+use Rattle.record.specs.Record.{commandOk, integralsOk, wordsOk, sound, broken}
+use Rattle.stages.specs.Step.{speedGains, currentGains, speedRegulated, currentRegulated, rampedBy, withTorque, withShaft, withSpeed, withCommand, commanded, turned, currents, fieldAfter, dRegulated, qRegulated, voltageOf, voltageFor, withField, advanced, driven, pulsed, outcome, sampleOk}
+use Rattle.drive.specs.Calls.{fresh, tripped, refused, taken, stepped}
 use Rattle.rows.specs.Rows.{rowStepped, four, isAccepted, isClipped}
 use Rattle.text.specs.Grammar.{allDigits, valueOf, digitsOf, fitting, numberOf as numberRead, cut, both, numbersOf, lineOf}
 use Rattle.text.specs.Decimal.{decimal, countText, textOf, moreText, numbersText, lineText}
@@ -63,15 +64,15 @@ first : stepped (fresh bench) (pos 0) (pos 0) (pos 0) ≡ record {
   pulses = record { a = pos 144; b = pos 455; c = pos 455; clipped = false };
   voltage = record { alpha = pos 2458; beta = pos 0 };
 }
-unfolding once stepped taken sampleOk advanced driven pulsed outcome withField fieldAfter followed fluxNext slip angleNext voltageFor voltageOf dRegulated qRegulated currentRegulated currentGains turned commanded withCommand withTorque withShaft withSpeed rampedBy speedRegulated speedGains regulated issued nextOf sumOf rampedTo thirtieth counted measured moved movement signed modulo down speedOf held weakened sizeOf currents clarke park inversePark modulated placed compareAt timesOf clippedTimes timeOf rowOf rowAt numberOf bit entriesOf fresh bench accepted refusal periodOk gainsOk gainOk gainsTied tied limitsOk restOk sound broken shaftOk commandOk fieldOk integralsOk inside
+unfolding once stepped taken sampleOk advanced driven pulsed outcome withField fieldAfter followed fluxNext slip angleNext voltageFor voltageOf dRegulated qRegulated currentRegulated currentGains turned commanded withCommand withTorque withShaft withSpeed rampedBy speedRegulated speedGains regulated issued nextOf sumOf rampedTo thirtieth counted measured moved movement signed modulo down speedOf held weakened sizeOf currents clarke park inversePark modulated placed compareAt timesOf clippedTimes timeOf rowOf rowAt numberOf bit entriesOf fresh bench accepted refusal periodOk gainsOk gainOk gainsTied tied limitsOk restOk sound wordsOk broken shaftOk commandOk fieldOk integralsOk inside
 first = rw (cosine-at-0, sine-at-0) refl
 
 second : stepped (once false) (pos 9000) (pos 0) (pos 0) ≡ refused (once true) (pos 6) (pos 600)
-unfolding once stepped taken tripped sampleOk bench accepted refusal periodOk gainsOk gainOk gainsTied tied limitsOk restOk sound broken shaftOk commandOk fieldOk integralsOk inside
+unfolding once stepped taken tripped sampleOk bench accepted refusal periodOk gainsOk gainOk gainsTied tied limitsOk restOk sound wordsOk broken shaftOk commandOk fieldOk integralsOk inside
 second = refl
 
 third : stepped (once true) (pos 0) (pos 0) (pos 0) ≡ refused (once true) (pos 7) (pos 600)
-unfolding once stepped taken bench accepted refusal periodOk gainsOk gainOk gainsTied tied limitsOk restOk sound broken shaftOk commandOk fieldOk integralsOk inside
+unfolding once stepped taken bench accepted refusal periodOk gainsOk gainOk gainsTied tied limitsOk restOk sound wordsOk broken shaftOk commandOk fieldOk integralsOk inside
 third = refl
 
 -- what the lines mean

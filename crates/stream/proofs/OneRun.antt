@@ -14,7 +14,7 @@ use lib.IntN.{ℤ, pos}
 use lib.ListN.{length, replicate, length-append, length-replicate, drop-of-length-le}
 use Rattle.record.specs.declared.Drive.{Drive}
 use Rattle.record.specs.Record.{broken}
-use Rattle.drive.specs.declared.Stepped.{Stepped}
+use Rattle.stages.specs.declared.Stepped.{Stepped}
 use Rattle.rows.specs.declared.Ran.{Ran}
 use Rattle.rows.specs.Rows.{rowStepped, four, one, isAccepted, isClipped, none as noRows, afterRow, ranOf, writtenOf, rowsIn, rowsFit, runOf, outOf}
 use Rattle.fixed.proofs.HeldLaws.{and-both}

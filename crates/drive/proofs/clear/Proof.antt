@@ -3,7 +3,7 @@
 use mathlib.Core.Path.{_≡_}
 use mathlib.Core.Bool.{true}
 use Rattle.record.specs.Record.{sound, broken}
-use Rattle.record.proofs.Asked.{no, yes}
+use Rattle.fixed.proofs.Asked.{no, yes}
 use Rattle.drive.specs.Calls.{cleared}
 use Rattle.drive.proofs.clear.Statement.{statement}
 use Rattle.drive.proofs.clear.Tie as tie

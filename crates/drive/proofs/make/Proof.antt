@@ -1,23 +1,25 @@
 -- `drive::make` meets its contract.
 -- Assumes nothing.
-use mathlib.Core.Path.{sym, _∙_}
+use borrow.Author.Needs.{needs}
+use mathlib.Core.Path.{sym, _∙_, ap}
 use mir.Syntax.{w32}
 use Rattle.fixed.proofs.Reading.{answer}
-use Rattle.drive.specs.Calls.{made}
+use Rattle.drive.specs.declared.Made.the-variants.{Ready, Refused}
+use Rattle.drive.proofs.CallLaws.{made-ready, made-refused}
 use Rattle.drive.proofs.make.Statement.{statement}
 use Rattle.drive.proofs.make.Tie as tie
 
 returns : tie.Need-returns
-unfolding made
 returns c =
-    let k = c .before .before .is-accepted in
-    simp (sym (k .ensures) ∙ c .before .if1 .taken, c .fresh .ensures)
+    let g = c .before .before .c .given in
+    let k = c .before .before .before .before in
+    ap Ready (c .fresh .ensures) ∙ sym (made-ready _ _ (sym (k .check .ensures) ∙ g .1))
 
 returns-2 : tie.Need-returns-2
-unfolding made
 returns-2 c =
-    let k = c .before .before .is-accepted in
-    simp (sym (k .ensures) ∙ c .before .if1 .left, answer w32 (c .refusal .ok) .is ∙ c .refusal .ensures)
+    let g = c .before .c2 .given in
+    let k = c .before .before .before in
+    ap Refused (answer w32 {x = g .0 .0} (c .known-told2 .given .0 .1) .is) ∙ sym (made-refused _ _ (sym (k .check .ensures) ∙ g .1))
 
 pub make-spec : {M : Type 1} → statement M
-make-spec = tie.close (tie.spec (λ c κs. tt) (λ c κs. tt) (λ c κs. tt) returns returns-2)
+make-spec = tie.close (tie.spec (λ c κs. tt) (λ c. search needs) (λ c κs. tt) (λ c. search needs) returns returns-2)

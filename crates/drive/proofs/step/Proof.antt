@@ -5,7 +5,7 @@ use mathlib.Core.Bool.{true}
 use mir.Facts.{toZ-ofZ}
 use Rattle.record.specs.Record.{sound, broken}
 use Rattle.drive.specs.Calls.{stepped}
-use Rattle.record.proofs.Asked.{no, yes}
+use Rattle.fixed.proofs.Asked.{no, yes}
 use Rattle.drive.proofs.step.Statement.{statement}
 use Rattle.drive.proofs.step.Tie as tie
 

@@ -2,7 +2,8 @@
 -- Assumes nothing.
 use mathlib.Core.Path.{_≡_, sym, _∙_}
 use mir.Facts.{toZ-ofZ}
-use Rattle.drive.specs.Calls.{sampleOk, taken}
+use Rattle.stages.specs.Step.{sampleOk}
+use Rattle.drive.specs.Calls.{taken}
 use Rattle.record.proofs.DriveTold.{told}
 use Rattle.drive.proofs.take.Statement.{statement}
 use Rattle.drive.proofs.take.Tie as tie

@@ -5,10 +5,11 @@ use mathlib.Core.Bool.{true}
 use lib.IntN.{pos}
 use mir.Facts.{toZ-ofZ}
 use Rattle.fixed.proofs.Reading.{word}
-use Rattle.record.specs.Record.{inside, sound, broken}
+use Rattle.fixed.specs.Fixed.{inside}
+use Rattle.record.specs.Record.{sound, broken, targetEnd}
 use Rattle.drive.specs.Calls.{targeted}
-use Rattle.record.proofs.Asked.{no, yes}
-use Rattle.drive.proofs.CallLaws.{inside-is}
+use Rattle.fixed.proofs.Asked.{no, yes}
+use Rattle.stages.proofs.Samples.{inside-is}
 use Rattle.drive.proofs.target.Statement.{statement}
 use Rattle.drive.proofs.target.Tie as tie
 
@@ -23,8 +24,8 @@ returns-2 : tie.Need-returns-2
 unfolding targeted broken
 returns-2 c = simp (c .answer2 .ensures, is-sound (c .before .before), c .before .if2 .taken)
 
-wanted-is : (c : tie.After-within) → c .within .result ≡ inside (pos 8191) (c .before .before .before .before .args .wanted)
-wanted-is c = inside-is 8191 (c .within .ensures) (word (c .before .before .before .before .fits .wanted))
+wanted-is : (c : tie.After-within) → c .within .result ≡ inside (pos targetEnd) (c .before .before .before .before .args .wanted)
+wanted-is c = inside-is targetEnd (c .within .ensures) (word (c .before .before .before .before .fits .wanted))
 
 returns-3 : tie.Need-returns-3
 unfolding targeted broken

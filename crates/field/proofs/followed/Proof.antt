@@ -6,7 +6,7 @@ use lib.IntN.{ℤ, _+ℤ_}
 use mir.Syntax.{w32}
 use Rattle.fixed.proofs.Equal.{ap₃, ap₄}
 use Rattle.fixed.proofs.Reading.{Reads, sized, local, answer, result, stored, bound, m32}
-use Rattle.field.specs.Field.{fluxNext, slip, angleNext, followed}
+use Rattle.field.specs.Field.{fluxNext, slip, angleNext, followed, slipEnd}
 use Rattle.field.proofs.FieldLaws.{slip-size}
 use Rattle.field.proofs.followed.Statement.{statement}
 use Rattle.field.proofs.followed.Tie as tie
@@ -24,7 +24,7 @@ flux-is c =
     ∙ c .flux-next .ensures
     ∙ ap₃ fluxNext (sized (s .fits .kr) (s .pre .kr-size) .is) (local w32 {x = s .args .f .flux} (s .pre .flux-size) tt .is) (sized (s .fits .d) (s .pre .d-size) .is)
 
-slip-reads : (c : tie.After-slip) → Reads (m32 (c .slip .result)) (slip-at (c .before .before .before)) 16383
+slip-reads : (c : tie.After-slip) → Reads (m32 (c .slip .result)) (slip-at (c .before .before .before)) slipEnd
 slip-reads c =
     let s = c .before .before .before in
     stored w32 (result (c .slip .ensures ∙ ap₃ slip (sized (s .fits .kt) (s .pre .kt-size) .is) (flux-is (c .before)) (sized (s .fits .q) (s .pre .q-size) .is)) (slip-size (s .args .kt) (flux-at s) (s .args .q))) tt

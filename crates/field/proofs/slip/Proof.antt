@@ -13,6 +13,7 @@ use Rattle.fixed.proofs.Reading.{word, answer, lit, is-less, not-less}
 use Rattle.field.proofs.FieldLaws.{slip-none, slip-some}
 use Rattle.field.proofs.slip.Statement.{statement}
 use Rattle.field.proofs.slip.Tie as tie
+use Rattle.field.specs.Field.{slipEnd}
 
 enough : (c : tie.Else1) → pos 41 ≤ℤ c .before .args .flux
 enough c = not-less (word (c .before .fits .flux)) (lit (pos 41)) (c .if1 .left)
@@ -32,7 +33,7 @@ returns-2 c =
     let s = e .before in
     answer w32 (c .hold-to .ok) .is
     ∙ c .hold-to .ensures
-    ∙ ap (λ (z : ℤ). held z (negℤ (pos 16383)) (pos 16383))
+    ∙ ap (λ (z : ℤ). held z (negℤ (pos slipEnd)) (pos slipEnd))
     (answer w64 (c .before .scaled .ok) .is
     ∙ c .before .scaled .ensures
     ∙ ap₃ (λ (k q f : ℤ). down (k *ℤ q) f) (word (s .fits .kt) .is) (word (s .fits .q) .is) (word (s .fits .flux) .is))

@@ -4,7 +4,7 @@ use mathlib.Core.Path.{refl}
 use mathlib.Core.List.{[], _∷_}
 use base.Logic.{emp}
 use contract.Monad.{factI}
-use Rattle.drive.specs.declared.Stepped.{Stepped}
+use Rattle.stages.specs.declared.Stepped.{Stepped}
 use Rattle.drive.specs.Calls.{stepped as steppedOf}
 use Rattle.drive.proofs.step.Symbol as step
 use Rattle.drive.proofs.step.Met as step-thm

@@ -9,7 +9,7 @@ use native.Mathlib.Omega.{arith}
 use lib.ListN.{length}
 use denote.Ref.{now}
 use Rattle.feeding.proofs.Upto.{Upto, upto-start, upto-past, upto-stopped}
-use Rattle.probe.specs.Calls.{isCall, callsAfter, asFed}
+use Rattle.probe.specs.Calls.{most, isCall, callsAfter, asFed}
 use Rattle.probe.proofs.CallLaws.{call-taken, none-taken}
 use Rattle.probe.proofs.fed.Statement.{statement}
 use Rattle.probe.proofs.fed.Tie as tie
@@ -18,7 +18,7 @@ abbrev Inv-loop : tie.InvT-loop
 Inv-loop chunk out₀ at before₀ line₀ numbers₀ begun₀ stopped₀ place₀ i₀ out before line numbers begun stopped place i =
     Upto isCall callsAfter (asFed (record { before = before₀; line = line₀; numbers = numbers₀; begun = begun₀; stopped = stopped₀ })) chunk
     (asFed (record { before = before; line = line; numbers = numbers; begun = begun; stopped = stopped })) i
-    × (length numbers₀ ≡ 34)
+    × (length numbers₀ ≡ most)
     × (place ≤ at + 264 * i)
     × (length out ≡ length out₀)
 
@@ -26,11 +26,11 @@ abbrev μ-loop : tie.MeasureT-loop
 μ-loop chunk out₀ at before₀ line₀ numbers₀ begun₀ stopped₀ place₀ i₀ out before line numbers begun stopped place i =
     length chunk - i
 
--- that there are 34 numbers is part of what an array is
+-- how many numbers there are is part of what an array is
 loop-holds : tie.Need-loop-holds Inv-loop μ-loop
 loop-holds c =
     let s = c .before .before .before .before in
-    (upto-start isCall callsAfter (asFed (s .args .s)) (now (s .args .chunk)), length-unmapped _ (s .args .s .numbers) 34 (s .good .0 .1 .1 .1 .1 .0 .1 .0 .1), omega arith, refl)
+    (upto-start isCall callsAfter (asFed (s .args .s)) (now (s .args .chunk)), length-unmapped _ (s .args .s .numbers) most (s .good .0 .1 .1 .1 .1 .0 .1 .0 .1), omega arith, refl)
 
 put-answer-requires : tie.Need-put-answer-requires Inv-loop μ-loop
 put-answer-requires c κs =

@@ -1,11 +1,12 @@
 -- `probe::is_call` meets its contract.
 -- Assumes nothing.
 use borrow.Author.Needs.{needs}
+use Prim.Native.Nat.{_+_}
 use lib.IntN.{pos}
 use lib.ListN.{getD}
 use denote.Ref.{now}
 use Rattle.fixed.proofs.Reading.{readOk32}
-use Rattle.probe.specs.Calls.{callBy}
+use Rattle.probe.specs.Calls.{recordAt, callBy}
 use Rattle.probe.proofs.is_call.Statement.{statement}
 use Rattle.probe.proofs.is_call.Tie as tie
 
@@ -22,8 +23,8 @@ returns c =
     let k = a1 .before in
     let n = now (k .before .args .n) in
     let first = readOk32 (getD n 0 (pos 0)) (k .call .given) in
-    let seen = readOk32 (getD n 17 (pos 0)) (a1 .within-arg .given) in
-    let tripped = readOk32 (getD n 30 (pos 0)) (a2 .within-arg2 .given) in
+    let seen = readOk32 (getD n (recordAt + 1) (pos 0)) (a1 .within-arg .given) in
+    let tripped = readOk32 (getD n (recordAt + 14) (pos 0)) (a2 .within-arg2 .given) in
     simp (e1 .within .ensures, e2 .within2 .ensures, e3 .within3 .ensures, e4 .within4 .ensures, e5 .within5 .ensures, c .within6 .ensures, first, seen, tripped)
 
 pub is-call-spec : {M : Type 1} → statement M

@@ -1,10 +1,11 @@
 -- `record::command_ok` meets its contract.
 -- Assumes nothing.
 use Rattle.fixed.proofs.Reading.{fits, bound}
-use Rattle.record.specs.Record.{inside as isInside, commandOk}
-use Rattle.record.proofs.SettingsTold.{told, Back}
+use Rattle.fixed.specs.Fixed.{inside as isInside}
+use Rattle.record.specs.Record.{commandOk}
+use Rattle.settings.proofs.SettingsTold.{told, Back}
 use Rattle.record.proofs.CommandTold.{told as told-command}
-use Rattle.record.proofs.Asked.{field, wide}
+use Rattle.fixed.proofs.Asked.{field, wide}
 use Rattle.record.proofs.command_ok.Statement.{statement}
 use Rattle.record.proofs.command_ok.Tie as tie
 

@@ -2,9 +2,9 @@
 -- Assumes nothing.
 use Rattle.fixed.proofs.Reading.{fits, bound}
 use Rattle.record.specs.Record.{integralsOk}
-use Rattle.record.proofs.SettingsTold.{told, Back}
+use Rattle.settings.proofs.SettingsTold.{told, Back}
 use Rattle.record.proofs.IntegralsTold.{told as told-integrals}
-use Rattle.record.proofs.Asked.{field, wide}
+use Rattle.fixed.proofs.Asked.{field, wide}
 use Rattle.record.proofs.integrals_ok.Statement.{statement}
 use Rattle.record.proofs.integrals_ok.Tie as tie
 

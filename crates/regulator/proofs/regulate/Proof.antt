@@ -8,7 +8,7 @@ use Rattle.fixed.specs.Fixed.{down, held}
 use Rattle.fixed.proofs.Equal.{ap₃}
 use Rattle.fixed.proofs.HeldLaws.{held-abs}
 use Rattle.fixed.proofs.Reading.{Reads, sized, local, result, plus, minus, times, multiplied, lowered, stored, fits, m32, m64}
-use Rattle.regulator.specs.Regulator.{sumOf, outOf, nextOf, regulated}
+use Rattle.regulator.specs.Regulator.{sumOf, outOf, nextOf, regulated, widest}
 use Rattle.regulator.proofs.regulate.Statement.{statement}
 use Rattle.regulator.proofs.regulate.Tie as tie
 
@@ -22,7 +22,7 @@ out-at s = outOf (s .args .x) (s .args .e) (s .args .g) (s .args .limit)
 abbrev next-at : tie.Start → ℤ
 next-at s = nextOf (s .args .x) (s .args .e) (s .args .g) (s .args .limit)
 
-x-reads : (s : tie.Start) → Reads (m64 (m32 (s .args .x))) (s .args .x) 8191
+x-reads : (s : tie.Start) → Reads (m64 (m32 (s .args .x))) (s .args .x) widest
 x-reads s = stored w64 (sized (s .fits .x) (s .pre .x-size)) tt
 
 -- e·Kp/4096 down
@@ -39,12 +39,12 @@ u-reads : (c : tie.After-scaled) → Reads (sum-of c) (sum-at (c .before .before
 unfolding sumOf
 u-reads c = plus (x-reads (c .before .before)) (stored w64 (stored w32 (rise-reads c) tt) tt)
 
-out-reads : (c : tie.After-hold-to) → Reads (c .hold-to .result) (out-at (c .before .before .before)) 8191
+out-reads : (c : tie.After-hold-to) → Reads (c .hold-to .result) (out-at (c .before .before .before)) widest
 unfolding outOf
 out-reads c =
     let s = c .before .before .before in
     let l = sized (s .fits .limit) (s .pre .limit-size) in
-    result (c .hold-to .ensures ∙ ap₃ held (stored w64 (u-reads (c .before)) tt .is) (ap negℤ (l .is)) (l .is)) (held-abs _ (s .args .limit) 8191 (s .pre .limit-size) (s .pre .limits))
+    result (c .hold-to .ensures ∙ ap₃ held (stored w64 (u-reads (c .before)) tt .is) (ap negℤ (l .is)) (l .is)) (held-abs _ (s .args .limit) widest (s .pre .limit-size) (s .pre .limits))
 
 -- the code's out − u
 abbrev over : tie.After-hold-to → ℤ

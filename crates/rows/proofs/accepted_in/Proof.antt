@@ -4,7 +4,7 @@ use mathlib.Core.Path.{_≡_, _∙_, ap, sym}
 use lib.IntN.{pos}
 use Rattle.fixed.specs.Fixed.{within}
 use Rattle.rows.specs.Rows.{isAccepted}
-use Rattle.drive.proofs.SteppedTold.{told}
+use Rattle.stages.proofs.SteppedTold.{told}
 use Rattle.rows.proofs.accepted_in.Statement.{statement}
 use Rattle.rows.proofs.accepted_in.Tie as tie
 

@@ -5,7 +5,7 @@ use mathlib.Core.Bool.{Bool, _&&_}
 use lib.IntN.{pos}
 use Rattle.fixed.specs.Fixed.{within}
 use Rattle.rows.specs.Rows.{isAccepted, isClipped}
-use Rattle.drive.proofs.SteppedTold.{told}
+use Rattle.stages.proofs.SteppedTold.{told}
 use Rattle.rows.proofs.clipped_in.Statement.{statement}
 use Rattle.rows.proofs.clipped_in.Tie as tie
 

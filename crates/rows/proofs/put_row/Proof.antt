@@ -5,7 +5,7 @@ use native.Mathlib.Omega.{arith}
 use lib.ListN.{length-set}
 use denote.Ref.{now}
 use Rattle.rows.specs.Rows.{four}
-use Rattle.drive.proofs.SteppedTold.{told}
+use Rattle.stages.proofs.SteppedTold.{told}
 use Rattle.rows.proofs.Lists.{set-four}
 use Rattle.rows.proofs.put_row.Statement.{statement}
 use Rattle.rows.proofs.put_row.Tie as tie

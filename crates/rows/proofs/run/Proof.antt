@@ -1,4 +1,4 @@
--- `rows::run` meets its contract: a record whose settings `drive::make` refuses is broken, so that 14 is given there too.
+-- `rows::run` meets its contract: a record whose settings are refused is broken, and so is one with a word out of range; past both tests it is sound.
 -- Assumes nothing.
 use borrow.Author.Needs.{needs}
 use mathlib.Core.Path.{_≡_, refl, ap, sym, _∙_}
@@ -7,7 +7,9 @@ use native.Mathlib.Omega.{arith}
 use lib.ListN.{length}
 use denote.Ref.{now}
 use Rattle.record.specs.Record.{sound, broken}
-use Rattle.record.proofs.Asked.{no, yes}
+use Rattle.fixed.proofs.Asked.{no, yes}
+use Rattle.settings.proofs.Ranges.{checked-accepted}
+use Rattle.record.proofs.Ranges.{sound-parts, words-broken}
 use Rattle.drive.proofs.CallLaws.{refused-broken}
 use Rattle.rows.specs.Rows.{rowsFit}
 use Rattle.rows.proofs.Outcomes.{room, run-14, run-9, run-0}
@@ -18,20 +20,21 @@ returns : tie.Need-returns
 returns c =
     let k = c .before .before .before in
     let s = k .before .args in
-    let r = run-14 (s .d) (now (s .samples)) (now (s .out)) (refused-broken _ _ (sym (k .make .ensures) ∙ c .before .enum-told2 .given .1)) in
+    let r = run-14 (s .d) (now (s .samples)) (now (s .out)) (refused-broken _ _ (sym (k .check .ensures) ∙ c .before .enum-told2 .given .1)) in
     rw (r .0, r .1) (c .none .ensures, refl)
 
 returns-2 : tie.Need-returns-2
-unfolding broken
 returns-2 c =
     let k = c .before .before in
     let s = k .before .before .before .before .args in
-    let r = run-14 (s .d) (now (s .samples)) (now (s .out)) (ap not (no (k .sound .ensures) (c .before .if1 .taken))) in
+    let r = run-14 (s .d) (now (s .samples)) (now (s .out)) (words-broken _ (no (k .words-ok .ensures) (c .before .if1 .taken))) in
     rw (r .0, r .1) (c .none2 .ensures, refl)
 
 -- past the tests the record is sound
 is-sound : (c : tie.Else1) → sound (c .before .before .before .before .before .args .d) ≡ true
-is-sound c = yes (c .before .sound .ensures) (c .if1 .left)
+is-sound c =
+    let k = c .before .before .before .before in
+    sound-parts _ (checked-accepted _ _ (sym (k .check .ensures) ∙ c .before .before .enum-told .given .1) .0) (yes (c .before .words-ok .ensures) (c .if1 .left))
 
 not-broken : (c : tie.Else1) → broken (c .before .before .before .before .before .args .d) ≡ false
 unfolding broken

@@ -7,11 +7,11 @@ use lib.Signed.{_<ℤ_, clashℤ, pos-natAbs, yes-nonNeg}
 use mir.Syntax.{w32}
 use Rattle.fixed.proofs.Parts.{order}
 use Rattle.fixed.proofs.Reading.{Reads, m32, local, lit, less, stored, fits, is-less, not-less}
-use Rattle.shaft.specs.Shaft.{sizeOf}
+use Rattle.shaft.specs.Shaft.{sizeOf, fastest}
 use Rattle.shaft.proofs.size.Statement.{statement}
 use Rattle.shaft.proofs.size.Tie as tie
 
-reading : (s : tie.Start) → Reads (m32 (s .args .n)) (s .args .n) 16383
+reading : (s : tie.Start) → Reads (m32 (s .args .n)) (s .args .n) fastest
 reading s = local w32 (s .pre) tt
 
 below : (n : ℤ) → n <ℤ pos 0 → negℤ n ≡ sizeOf n

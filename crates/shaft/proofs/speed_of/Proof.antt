@@ -6,7 +6,7 @@ use lib.IntN.{ℤ, pos, negℤ, _*ℤ_}
 use mir.Syntax.{w32, w64}
 use Rattle.fixed.specs.Fixed.{down, held}
 use Rattle.fixed.proofs.Reading.{word, answer}
-use Rattle.shaft.specs.Shaft.{speedOf}
+use Rattle.shaft.specs.Shaft.{speedOf, fastest}
 use Rattle.shaft.proofs.speed_of.Statement.{statement}
 use Rattle.shaft.proofs.speed_of.Tie as tie
 
@@ -22,7 +22,7 @@ returns c =
     let s = c .before .before in
     answer w32 (c .hold-to .ok) .is
     ∙ c .hold-to .ensures
-    ∙ ap (λ (x : ℤ). held x (negℤ (pos 16383)) (pos 16383)) (answer w64 (c .before .scaled .ok) .is
+    ∙ ap (λ (x : ℤ). held x (negℤ (pos fastest)) (pos fastest)) (answer w64 (c .before .scaled .ok) .is
     ∙ c .before .scaled .ensures
     ∙ ap₂ (λ (a b : ℤ). down (a *ℤ b) (pos 256)) (word (s .fits .sum) .is) (word (s .fits .kn) .is))
 

@@ -14,7 +14,7 @@ use Rattle.fixed.proofs.Parts.{order}
 use Rattle.fixed.proofs.Size.{abs-*≤}
 use Rattle.fixed.proofs.DownLaws.{down-abs}
 use Rattle.fixed.proofs.Reading.{Reads, m32, word, result, lit, stored, named, fits, at-most, not-at-most}
-use Rattle.shaft.specs.Shaft.{sizeOf, weakened as weakenedOf}
+use Rattle.shaft.specs.Shaft.{sizeOf, weakened as weakenedOf, fastest}
 use Rattle.shaft.proofs.Weakening.{weakened-slow, weakened-fast}
 use Rattle.shaft.proofs.weakened.Statement.{statement}
 use Rattle.shaft.proofs.weakened.Tie as tie
@@ -22,7 +22,7 @@ use Rattle.shaft.proofs.weakened.Tie as tie
 size-requires : tie.Need-size-requires
 size-requires c κs = search needs
 
-size : (c : tie.After-size) → Reads (m32 (c .size .result)) (pos (natAbs (c .before .args .n))) 16383
+size : (c : tie.After-size) → Reads (m32 (c .size .result)) (pos (natAbs (c .before .args .n))) fastest
 unfolding sizeOf
 size c = stored w32 (result (c .size .ensures ∙ ap sizeOf (word (c .before .fits .n) .is)) (c .before .pre .1)) tt
 

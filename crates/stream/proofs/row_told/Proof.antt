@@ -9,7 +9,7 @@ use Rattle.fixed.proofs.Reading.{readOk32}
 use Rattle.record.proofs.Ranges.{sound→}
 use Rattle.drive.specs.Calls.{taken}
 use Rattle.drive.proofs.Kept.{step-taken}
-use Rattle.drive.proofs.SteppedTold.{told}
+use Rattle.stages.proofs.SteppedTold.{told}
 use Rattle.rows.specs.Rows.{rowStepped, four, isAccepted, isClipped}
 use Rattle.stream.specs.Program.{stepOf, tallyOf, answerText}
 use Rattle.stream.proofs.row_told.Statement.{statement}

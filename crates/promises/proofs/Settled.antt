@@ -1,0 +1,42 @@
+-- Each public call is settled by its own contract, which is the equation itself, or for a run two of them. That there is no second outcome follows.
+-- Assumes nothing.
+use mathlib.Core.Path.{_≡_, sym, _∙_, ap, ap₂}
+use mathlib.Core.List.{List}
+use mathlib.Core.Logic.{_↔_}
+use Prim.Native.Nat.{ℕ}
+use contract.Lifetimes.{Lfts}
+use borrow.Fn.Kinds.{PK, RK, Dens, resT, endedOf, In, Out}
+use denote.Triple.Clauses.{AtExit}
+use Rattle.promises.specs.Settled.{Settled, MakeSettled, NumberSettled, StepSettled, TargetSettled, ClearSettled, RunSettled}
+
+settled : {n : ℕ} {ps : List (PK n)} {r : RK n} {asks : In n ps} {ensures : Out n ps r} {B : Type 0} {outcome : (κs : Lfts n) → resT r κs .Denot → AtExit (endedOf n ps r) κs → B}
+    {definition : (κs : Lfts n) → Dens κs ps → B} → ((κs : Lfts n) (a : Dens κs ps) → asks κs a)
+    → ((κs : Lfts n) (a : Dens κs ps) (u : resT r κs .Denot) (x : AtExit (endedOf n ps r) κs) → ensures κs a u x ↔ (outcome κs u x ≡ definition κs a))
+    → Settled n ps r asks ensures outcome definition
+settled p e = record { asks-nothing = p; as-defined = e; no-second = λ κs a u v x y l m. e κs a u x .0 l ∙ sym (e κs a v y .0 m) }
+
+pub make-settled : MakeSettled
+make-settled = settled (λ κs a. tt) (λ κs a u x. (λ p. p, λ p. p))
+
+pub number-settled : NumberSettled
+number-settled = settled (λ κs a. tt) (λ κs a u x. (λ p. p, λ p. p))
+
+pub step-settled : StepSettled
+step-settled = settled (λ κs a. tt) (λ κs a u x. (λ p. p, λ p. p))
+
+pub target-settled : TargetSettled
+target-settled = settled (λ κs a. tt) (λ κs a u x. (λ p. p, λ p. p))
+
+pub clear-settled : ClearSettled
+clear-settled = settled (λ κs a. tt) (λ κs a u x. (λ p. p, λ p. p))
+
+-- two equations are one of the pair
+module _ {A B : Type 0} {u v : A} {d e : B} where
+  pub paired : (u ≡ v) × (d ≡ e) → _≡_ {A = A × B} (u, d) (v, e)
+  paired p = ap₂ {C = A × B} (λ (u : A) (d : B). (u, d)) (p .0) (p .1)
+
+  pub parted : _≡_ {A = A × B} (u, d) (v, e) → (u ≡ v) × (d ≡ e)
+  parted p = (ap (λ (r : A × B). r .0) p, ap (λ (r : A × B). r .1) p)
+
+pub run-settled : RunSettled
+run-settled = settled (λ κs a. tt) (λ κs a u x. (paired, parted))

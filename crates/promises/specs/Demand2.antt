@@ -1,0 +1,55 @@
+-- Demand 2: each accepted step is 01's rules; a run is its steps, row by row; and through any list of calls no record is broken.
+use mathlib.Core.Path.{_≡_}
+use mathlib.Core.Bool.{true, false}
+use mathlib.Core.List.{List, [], _++_}
+use Prim.Native.Nat.{ℕ, suc, _*_}
+use lib.IntN.{ℤ, pos}
+use lib.ListN.{length, drop}
+use Rattle.record.specs.declared.Drive.{Drive}
+use Rattle.record.specs.Record.{broken}
+use Rattle.stages.specs.Step.{advanced}
+use Rattle.drive.specs.Calls.{stepped}
+use Rattle.rows.specs.Rows.{four, isAccepted, isClipped, none, ranOf, writtenOf, rowsIn, rowsFit, runOf, outOf}
+use Rattle.promises.specs.Histories.{Call, afterAll, History, rowAt, countOf}
+
+-- each accepted step gives precisely the state and the compares of "One accepted step, in order"
+abbrev pub StepByTheRules : Type 0
+StepByTheRules = (d : Drive) (ia ib count : ℤ) → stepped d ia ib count .number ≡ pos 0 → stepped d ia ib count ≡ advanced d ia ib count
+
+-- "A run takes each row (ia, ib, count) as one step, writes three compares and the number, goes on after a trip"
+pub record RowByRow (d : Drive) (samples : List ℤ) : Type 0 where
+  pub starts : ranOf d samples 0 .drive ≡ d
+  pub goes-on : (i : ℕ) → ranOf d samples (suc i) .drive ≡ rowAt d samples i .drive
+  pub writes-none : writtenOf d samples 0 ≡ []
+  pub writes : (i : ℕ) → writtenOf d samples (suc i) ≡ writtenOf d samples i ++ four (rowAt d samples i)
+
+abbrev pub RunByRows : Type 0
+RunByRows = (d : Drive) (samples : List ℤ) → RowByRow d samples
+
+-- "and returns the count of accepted steps and of clipped ones among them"; "Numbers past the rows' output stay"
+pub record AfterTheRows (d : Drive) (samples out : List ℤ) : Type 0 where
+  pub drive : runOf d samples out .drive ≡ ranOf d samples (rowsIn samples) .drive
+  pub output : outOf d samples out ≡ writtenOf d samples (rowsIn samples) ++ drop (4 * rowsIn samples) out
+  pub accepted : runOf d samples out .accepted ≡ countOf (λ i. isAccepted (rowAt d samples i)) (rowsIn samples)
+  pub clipped : runOf d samples out .clipped ≡ countOf (λ i. isClipped (rowAt d samples i)) (rowsIn samples)
+
+abbrev pub RunAccepted : Type 0
+RunAccepted = (d : Drive) (samples out : List ℤ) → broken d ≡ false → rowsFit (length samples) (length out) ≡ true → AfterTheRows d samples out
+
+-- "No rows is accepted", and changes nothing
+abbrev pub RunOfNone : Type 0
+RunOfNone = (d : Drive) (out : List ℤ) → broken d ≡ false → (runOf d [] out ≡ none d (pos 0)) × (outOf d [] out ≡ out)
+
+-- "No accepted call makes one": no list of calls, accepted or refused, breaks a record, and none is ever broken
+abbrev pub StaysUnbroken : Type 0
+StaysUnbroken = (d : Drive) (cs : List Call) → broken d ≡ false → broken (afterAll d cs) ≡ false
+
+abbrev pub NeverBroken : Type 0
+NeverBroken = (d : Drive) → History d → broken d ≡ false
+
+-- no list of calls changes the settings, and they are those that were accepted
+abbrev pub SettingsStay : Type 0
+SettingsStay = (d : Drive) (cs : List Call) → afterAll d cs .settings ≡ d .settings
+
+abbrev pub SettingsAsAccepted : Type 0
+SettingsAsAccepted = (d : Drive) (r : History d) → d .settings ≡ r .settings

@@ -1,0 +1,60 @@
+-- The promises are of the code: each public call's own contract, `Post`, which the function's proof meets, allows just the answer that its
+-- definition gives, for all arguments, and asks nothing, `Pre`. So there is no second outcome.
+use mathlib.Core.Path.{_≡_}
+use mathlib.Core.Logic.{_↔_}
+use mathlib.Core.List.{List}
+use Prim.Native.Nat.{ℕ}
+use lib.IntN.{ℤ}
+use contract.Lifetimes.{Lfts}
+use borrow.Fn.Kinds.{PK, RK, Dens, resT, endedOf, In, Out}
+use denote.Triple.Clauses.{AtExit}
+use denote.Ref.{now}
+use Rattle.drive.proofs.make.Reads as make
+use Rattle.drive.proofs.make.Kinds as make-kinds
+use Rattle.drive.proofs.number_of.Reads as number_of
+use Rattle.drive.proofs.number_of.Kinds as number_of-kinds
+use Rattle.drive.proofs.step.Reads as step
+use Rattle.drive.proofs.step.Kinds as step-kinds
+use Rattle.drive.proofs.target.Reads as target
+use Rattle.drive.proofs.target.Kinds as target-kinds
+use Rattle.drive.proofs.clear.Reads as clear
+use Rattle.drive.proofs.clear.Kinds as clear-kinds
+use Rattle.rows.proofs.run.Reads as run
+use Rattle.rows.proofs.run.Kinds as run-kinds
+use Rattle.drive.specs.Calls.{made, numberOf, stepped, targeted, cleared}
+use Rattle.rows.specs.Rows.{runOf, outOf}
+use Rattle.promises.specs.Table.{Run}
+
+-- a call with n lifetimes, parameters ps and result r, that asks and ensures so much. Its outcome is read of the result u and of what the parameters
+-- are at exit, x. Of all arguments a it asks nothing; it allows an outcome exactly when this is the definition's; and no second one
+pub record Settled (n : ℕ) (ps : List (PK n)) (r : RK n) (asks : In n ps) (ensures : Out n ps r) {B : Type 0}
+    (outcome : (κs : Lfts n) → resT r κs .Denot → AtExit (endedOf n ps r) κs → B) (definition : (κs : Lfts n) → Dens κs ps → B) : Type 0 where
+  pub asks-nothing : (κs : Lfts n) (a : Dens κs ps) → asks κs a
+  pub as-defined : (κs : Lfts n) (a : Dens κs ps) (u : resT r κs .Denot) (x : AtExit (endedOf n ps r) κs) → ensures κs a u x ↔ (outcome κs u x ≡ definition κs a)
+  pub no-second : (κs : Lfts n) (a : Dens κs ps) (u v : resT r κs .Denot) (x y : AtExit (endedOf n ps r) κs) → ensures κs a u x → ensures κs a v y → outcome κs u x ≡ outcome κs v y
+
+-- settings, and the number of what they make
+abbrev pub MakeSettled : Type 0
+MakeSettled = Settled 0 make-kinds.ps make-kinds.r make.Pre make.Post (λ κs u x. u) (λ κs a. made (a .0))
+
+abbrev pub NumberSettled : Type 0
+NumberSettled = Settled 0 number_of-kinds.ps number_of-kinds.r number_of.Pre number_of.Post (λ κs u x. u) (λ κs a. numberOf (a .0))
+
+-- a step, of a drive, ia, ib and count
+abbrev pub StepSettled : Type 0
+StepSettled = Settled 0 step-kinds.ps step-kinds.r step.Pre step.Post (λ κs u x. u) (λ κs a. stepped (a .0) (a .1 .0) (a .1 .1 .0) (a .1 .1 .1 .0))
+
+-- a target, of a drive and what is wanted
+abbrev pub TargetSettled : Type 0
+TargetSettled = Settled 0 target-kinds.ps target-kinds.r target.Pre target.Post (λ κs u x. u) (λ κs a. targeted (a .0) (a .1 .0))
+
+abbrev pub ClearSettled : Type 0
+ClearSettled = Settled 0 clear-kinds.ps clear-kinds.r clear.Pre clear.Post (λ κs u x. u) (λ κs a. cleared (a .0))
+
+-- a run, of a drive, samples and output: the answer, with the drive and both counts, and the numbers lent to it
+abbrev pub lent : (κs : Lfts 2) → AtExit (endedOf 2 run-kinds.ps run-kinds.r) κs → List ℤ
+lent κs x = now (x .1 .1 .0)
+
+abbrev pub RunSettled : Type 0
+RunSettled = Settled 2 run-kinds.ps run-kinds.r run.Pre run.Post {B = Run} (λ κs u x. (u, lent κs x))
+    (λ κs a. (runOf (a .0) (now (a .1 .0)) (now (a .1 .1 .0)), outOf (a .0) (now (a .1 .0)) (now (a .1 .1 .0))))

@@ -1,0 +1,3 @@
+pub mod SettingsTold
+pub mod Ranges
+pub mod WordLaws

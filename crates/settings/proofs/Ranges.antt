@@ -1,0 +1,119 @@
+-- Accepted settings as named ranges: `accepted s ≡ true` exactly when `SettingsIn s`; and what the check's two answers say.
+-- Assumes nothing.
+use mathlib.Core.Path.{_≡_, refl, sym, _∙_}
+use mathlib.Core.Bool.{Bool, true, false, cond, _&&_, true≢false}
+use lib.IntN.{ℤ, pos, _*ℤ_}
+use lib.Signed.{leZ, ≤ℤ-refl}
+use Rattle.fixed.specs.Fixed.{isIn}
+use Rattle.fixed.proofs.Ring.{≤-antisym}
+use Rattle.fixed.proofs.HeldLaws.{and-both, within-lo, within-hi, within-yes}
+use Rattle.fixed.proofs.Ranges.{In, two, three, four, five}
+use Rattle.settings.specs.declared.Settings.{Settings}
+use Rattle.settings.specs.declared.Checked.the-variants.{Accepted, Refused}
+use Rattle.settings.specs.Ranges as range
+use Rattle.settings.specs.Settings.{periodOk, gainOk, gainsOk, tied, gainsTied, limitsOk, restOk, unless, refusal, accepted, checked}
+
+-- one gain set
+pub record GainsIn (kp kcor ki : ℤ) : Type 0 where
+  pub kp-in : In range.kp kp
+  pub kcor-in : In range.kcor kcor
+  pub ki-in : In range.ki ki
+  pub is-tied : pos 4096 *ℤ ki ≡ kp *ℤ kcor
+
+pub record SettingsIn (s : Settings) : Type 0 where
+  pub t : In range.t (s .t)
+  pub speed : GainsIn (s .skp) (s .skcor) (s .ski)
+  pub current : GainsIn (s .ckp) (s .ckcor) (s .cki)
+  pub v : In range.v (s .v)
+  pub q : In range.q (s .q)
+  pub kr : In range.kr (s .kr)
+  pub kt : In range.kt (s .kt)
+  pub kth : In range.kth (s .kth)
+  pub kn : In range.kn (s .kn)
+  pub f : In range.f (s .f)
+  pub r : In range.r (s .r)
+
+-- ════ settings
+tied→ : (kp kcor ki : ℤ) → tied kp kcor ki ≡ true → pos 4096 *ℤ ki ≡ kp *ℤ kcor
+unfolding tied
+tied→ kp kcor ki e = let p = kp *ℤ kcor in ≤-antisym (within-hi p p (pos 4096 *ℤ ki) e) (within-lo p p (pos 4096 *ℤ ki) e)
+
+tied← : (kp kcor ki : ℤ) → pos 4096 *ℤ ki ≡ kp *ℤ kcor → tied kp kcor ki ≡ true
+unfolding tied
+tied← kp kcor ki e = let p = kp *ℤ kcor in rw e (within-yes p p p (≤ℤ-refl p) (≤ℤ-refl p))
+
+gains→ : (kp kcor ki : ℤ) → gainOk kp kcor ki ≡ true → tied kp kcor ki ≡ true → GainsIn kp kcor ki
+unfolding gainOk
+gains→ kp kcor ki e t =
+    let h = three (isIn range.kp kp) (isIn range.kcor kcor) (isIn range.ki ki) e in
+    record { kp-in = h .0; kcor-in = h .1; ki-in = h .2; is-tied = tied→ kp kcor ki t }
+
+gains← : (kp kcor ki : ℤ) → GainsIn kp kcor ki → gainOk kp kcor ki ≡ true
+unfolding gainOk
+gains← kp kcor ki g = and-both (and-both (g .kp-in) (g .kcor-in)) (g .ki-in)
+
+-- nothing refuses exactly when all five tests pass
+passed : (a b c d e : Bool) → leZ (unless a (pos 1) (unless b (pos 2) (unless c (pos 3) (unless d (pos 4) (unless e (pos 5) (pos 0)))))) (pos 0) ≡ (a && b && c && d && e)
+passed false b c d e = refl
+passed true false c d e = refl
+passed true true false d e = refl
+passed true true true false e = refl
+passed true true true true false = refl
+passed true true true true true = refl
+
+tests : (s : Settings) → accepted s ≡ (periodOk s && gainsOk s && gainsTied s && limitsOk s && restOk s)
+unfolding accepted refusal
+tests s = passed (periodOk s) (gainsOk s) (gainsTied s) (limitsOk s) (restOk s)
+
+pub accepted→ : (s : Settings) → accepted s ≡ true → SettingsIn s
+unfolding periodOk gainsOk gainsTied limitsOk restOk
+accepted→ s h =
+    let e = five (periodOk s) (gainsOk s) (gainsTied s) (limitsOk s) (restOk s) (sym (tests s) ∙ h) in
+    let g = two (gainOk (s .skp) (s .skcor) (s .ski)) (gainOk (s .ckp) (s .ckcor) (s .cki)) (e .1) in
+    let t = two (tied (s .skp) (s .skcor) (s .ski)) (tied (s .ckp) (s .ckcor) (s .cki)) (e .2) in
+    let l = two (isIn range.v (s .v)) (isIn range.q (s .q)) (e .3) in
+    let m = isIn range.kr (s .kr) && isIn range.kt (s .kt) && isIn range.kth (s .kth) in
+    let i = four m (isIn range.kn (s .kn)) (isIn range.f (s .f)) (isIn range.r (s .r)) (e .4) in
+    let j = three (isIn range.kr (s .kr)) (isIn range.kt (s .kt)) (isIn range.kth (s .kth)) (i .0) in
+    record {
+      t = e .0;
+      speed = gains→ _ _ _ (g .0) (t .0);
+      current = gains→ _ _ _ (g .1) (t .1);
+      v = l .0;
+      q = l .1;
+      kr = j .0;
+      kt = j .1;
+      kth = j .2;
+      kn = i .1;
+      f = i .2;
+      r = i .3;
+    }
+
+pub accepted← : (s : Settings) → SettingsIn s → accepted s ≡ true
+unfolding periodOk gainsOk gainsTied limitsOk restOk
+accepted← s i =
+    tests s
+    ∙ and-both
+    (and-both
+    (and-both
+    (and-both (i .t) (and-both (gains← _ _ _ (i .speed)) (gains← _ _ _ (i .current))))
+    (and-both (tied← _ _ _ (i .speed .is-tied)) (tied← _ _ _ (i .current .is-tied))))
+    (and-both (i .v) (i .q)))
+    (and-both (and-both (and-both (and-both (and-both (i .kr) (i .kt)) (i .kth)) (i .kn)) (i .f)) (i .r))
+
+-- ════ the check
+pub checked-accepted : (s r : Settings) → checked s ≡ Accepted r → (accepted s ≡ true) × (s ≡ r)
+unfolding checked
+checked-accepted s r = by (accepted s) refl
+  where
+    by : (b : Bool) → accepted s ≡ b → cond b (Accepted s) (Refused (refusal s)) ≡ Accepted r → (accepted s ≡ true) × (s ≡ r)
+    by true e h = (e, cc)
+    by false e h = absurd (let z : _≡_ {A = Bool} true false = cc in true≢false z)
+
+pub checked-refused : (s : Settings) (n : ℤ) → checked s ≡ Refused n → (accepted s ≡ false) × (n ≡ refusal s)
+unfolding checked
+checked-refused s n = by (accepted s) refl
+  where
+    by : (b : Bool) → accepted s ≡ b → cond b (Accepted s) (Refused (refusal s)) ≡ Refused n → (accepted s ≡ false) × (n ≡ refusal s)
+    by true e h = absurd (let z : _≡_ {A = Bool} true false = cc in true≢false z)
+    by false e h = (e, cc)

@@ -1,0 +1,17 @@
+-- `settings::is_accepted` meets its contract.
+-- Assumes nothing.
+use mathlib.Core.Path.{_∙_, ap}
+use lib.IntN.{ℤ, pos}
+use lib.Signed.{leZ}
+use mir.Syntax.{w32}
+use Rattle.fixed.proofs.Reading.{answer}
+use Rattle.settings.specs.Settings.{accepted}
+use Rattle.settings.proofs.is_accepted.Statement.{statement}
+use Rattle.settings.proofs.is_accepted.Tie as tie
+
+returns : tie.Need-returns
+unfolding accepted
+returns c = ap (λ (n : ℤ). leZ n (pos 0)) (answer w32 (c .refusal .ok) .is ∙ c .refusal .ensures)
+
+pub is-accepted-spec : {M : Type 1} → statement M
+is-accepted-spec = tie.close (tie.spec (λ c κs. tt) returns)

@@ -1,0 +1,4 @@
+pub mod Ranges
+pub mod Settings
+pub mod Words
+pub mod Bench

@@ -1,0 +1,63 @@
+-- The settings, and when they are refused (document 01, "Settings" and numbers 1 to 5 of "Numbers handed back").
+use mathlib.Core.Bool.{Bool, cond, _&&_}
+use lib.IntN.{ℤ, pos, _*ℤ_}
+use lib.Signed.{leZ}
+use Rattle.fixed.specs.Fixed.{within, isIn}
+use Rattle.settings.specs.declared.Settings.{Settings}
+use Rattle.settings.specs.declared.Checked.{Checked}
+use Rattle.settings.specs.declared.Checked.the-variants.{Accepted, Refused}
+use Rattle.settings.specs.Ranges as range
+
+unfoldable pub periodOk : Settings → Bool
+periodOk s = isIn range.t (s .t)
+
+unfoldable pub gainOk : ℤ → ℤ → ℤ → Bool
+gainOk kp kcor ki = isIn range.kp kp && isIn range.kcor kcor && isIn range.ki ki
+
+-- two gain sets, speed and current
+unfoldable pub gainsOk : Settings → Bool
+gainsOk s = gainOk (s .skp) (s .skcor) (s .ski) && gainOk (s .ckp) (s .ckcor) (s .cki)
+
+-- 4096·Ki = Kp·Kcor: within p..p is to be p
+unfoldable pub tied : ℤ → ℤ → ℤ → Bool
+tied kp kcor ki = within (kp *ℤ kcor) (kp *ℤ kcor) (pos 4096 *ℤ ki)
+
+unfoldable pub gainsTied : Settings → Bool
+gainsTied s = tied (s .skp) (s .skcor) (s .ski) && tied (s .ckp) (s .ckcor) (s .cki)
+
+unfoldable pub limitsOk : Settings → Bool
+limitsOk s = isIn range.v (s .v) && isIn range.q (s .q)
+
+unfoldable pub restOk : Settings → Bool
+restOk s =
+    isIn range.kr (s .kr)
+    && isIn range.kt (s .kt)
+    && isIn range.kth (s .kth)
+    && isIn range.kn (s .kn)
+    && isIn range.f (s .f)
+    && isIn range.r (s .r)
+
+-- the number where a test fails, else what comes after it
+abbrev pub unless : Bool → ℤ → ℤ → ℤ
+unless ok number others = cond ok others number
+
+-- the lowest number that applies to settings; 0 where none does
+unfoldable pub refusal : Settings → ℤ
+refusal s =
+    unless (periodOk s) (pos 1)
+    (unless (gainsOk s) (pos 2)
+    (unless (gainsTied s) (pos 3)
+    (unless (limitsOk s) (pos 4)
+    (unless (restOk s) (pos 5) (pos 0)))))
+
+unfoldable pub accepted : Settings → Bool
+accepted s = leZ (refusal s) (pos 0)
+
+-- ════ what settings answer: themselves, or the number that refuses them
+unfoldable pub checked : Settings → Checked
+checked s = cond (accepted s) (Accepted s) (Refused (refusal s))
+
+-- 01's number of each case
+abbrev pub numberOf : Checked → ℤ
+numberOf (Accepted s) = pos 0
+numberOf (Refused n) = n

@@ -1,0 +1,5 @@
+pub mod Sizes
+pub mod Kept
+pub mod Regulating
+pub mod Samples
+pub mod SteppedTold

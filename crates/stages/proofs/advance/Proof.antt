@@ -1,0 +1,94 @@
+-- `stages::advance` meets its contract: rules 1 and 2, then 3 to 5, then 6 to 9, with the old angle's sine and cosine.
+-- Assumes nothing.
+use mathlib.Core.Path.{_≡_, _∙_, ap, sym, subst}
+use lib.IntN.{ℤ, pos}
+use mir.Syntax.{w32}
+use Rattle.fixed.proofs.Equal.{ap₄}
+use Rattle.fixed.proofs.Ranges.{in-lo, in-hi}
+use Rattle.field.specs.Field.{angles}
+use Rattle.fixed.proofs.Reading.{Reads, m32, word, result, stored, bound}
+use Rattle.sine.specs.Sine.{sineAt, cosineAt, Angle}
+use Rattle.sine.proofs.Rule.{sine-in-is, cosine-in-is, sine-size, cosine-size}
+use Rattle.shaft.specs.Shaft.{Count}
+use Rattle.stages.specs.Step.{turned, currents, pulsed, driven, advanced, Turning}
+use Rattle.record.proofs.Ranges.{Sound, sound→, sound←}
+use Rattle.stages.proofs.Sizes as size
+use Rattle.stages.proofs.Kept.{turned-sound, currents-size, turning}
+use Rattle.record.proofs.DriveTold.{Back, told}
+use Rattle.stages.proofs.advance.Statement.{statement}
+use Rattle.stages.proofs.advance.Tie as tie
+
+back : (s : tie.Start) → Back (s .args .d)
+back s = told (s .args .d) _ (s .good .0 .1 .1)
+
+is-sound : (s : tie.Start) → Sound (s .args .d)
+is-sound s = sound→ (s .args .d) (s .pre .0)
+
+sin : (c : tie.After-sine-in) → Reads (m32 (c .sine-in .result)) (sineAt (c .before .before .args .d .field .angle)) 4096
+sin c =
+    let s = c .before .before in
+    stored w32 (result (c .sine-in .ensures ∙ sine-in-is _ _ (s .pre .2) ∙ ap sineAt (back s .field .angle)) (sine-size (s .args .d .field .angle))) tt
+
+cos : (c : tie.After-cosine-in) → Reads (m32 (c .cosine-in .result)) (cosineAt (c .before .before .before .args .d .field .angle)) 4096
+cos c =
+    let s = c .before .before .before in
+    stored w32 (result (c .cosine-in .ensures ∙ cosine-in-is _ _ (s .pre .2) ∙ ap cosineAt (back s .field .angle)) (cosine-size (s .args .d .field .angle))) tt
+
+turned-is : (c : tie.After-turned) → c .turned .result ≡ turned (c .before .before .before .before .args .d) (c .before .before .before .before .args .count)
+turned-is c =
+    let s = c .before .before .before .before in
+    c .turned .ensures ∙ ap (turned (s .args .d)) (word (s .fits .count) .is)
+
+currents-are : (c : tie.After-currents) → c .currents .result ≡ currents (c .before .before .before .before .before .args .ia) (c .before .before .before .before .before .args .ib) (sineAt (c .before .before .before .before .before .args .d .field .angle)) (cosineAt (c .before .before .before .before .before .args .d .field .angle))
+currents-are c =
+    let k = c .before .before in
+    let s = k .before .before .before in
+    c .currents .ensures ∙ ap₄ currents (word (s .fits .ia) .is) (word (s .fits .ib) .is) (sin (k .before) .is) (cos k .is)
+
+returns : tie.Need-returns
+unfolding advanced driven
+returns c =
+    let j = c .before in
+    let k = j .before .before in
+    c .pulsed .ensures ∙ ap₄ pulsed (turned-is (j .before)) (currents-are j) (sin (k .before) .is) (cos k .is)
+
+angle : (s : tie.Start) → Angle (m32 (s .args .d .field .angle))
+angle s =
+    let a = s .args .d .field .angle in
+    let h = is-sound s .field .angle in
+    rw (back s .field .angle) (record { lo = in-lo angles a h; hi = in-hi angles a h })
+
+-- what the stages ask of sine and cosine
+turns : (c : tie.After-cosine-in) → Turning (m32 (c .before .sine-in .result)) (m32 (c .cosine-in .result))
+turns c = record { sin-size = bound (sin (c .before)) tt; cos-size = bound (cos c) tt }
+
+turned-requires : tie.Need-turned-requires
+turned-requires c κs =
+    let s = c .before .before .before in
+    (s .pre .0, subst (λ (z : ℤ). Count z) (sym (word (s .fits .count) .is)) (size.samples→ (s .args .ia) (s .args .ib) (s .args .count) (s .pre .1) .3))
+
+currents-requires : tie.Need-currents-requires
+currents-requires c κs =
+    let s = c .before .before .before .before in
+    (rw (word (s .fits .ia) .is, word (s .fits .ib) .is) (size.samples (s .args .ia) (s .args .ib) (s .args .count) (s .pre .1)), turns (c .before))
+
+pulsed-requires : tie.Need-pulsed-requires
+pulsed-requires c κs =
+    let k = c .before .before in
+    let s = k .before .before .before in
+    let d = s .args .d in
+    let a = d .field .angle in
+    let h = size.samples→ (s .args .ia) (s .args .ib) (s .args .count) (s .pre .1) in
+    let z = currents-size (s .args .ia) (s .args .ib) (sineAt a) (cosineAt a) (size.samples (s .args .ia) (s .args .ib) (s .args .count) (s .pre .1)) (turning a) in (
+      rw (turned-is (c .before), currents-are c) (record {
+        is-sound = sound← (turned d (s .args .count)) (turned-sound d (s .args .count) (is-sound s) (h .3));
+        d-size = z .0;
+        q-size = z .1;
+      }),
+      turns k,
+    )
+
+pub advance-spec : {M : Type 1} → statement M
+advance-spec =
+    tie.close
+    (tie.spec (λ c κs. angle (c .before)) (λ c κs. angle (c .before .before)) turned-requires currents-requires pulsed-requires returns)
