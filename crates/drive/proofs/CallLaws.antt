@@ -1,12 +1,13 @@
 -- What the check of settings settles: that refused ones make a record broken, and what settings make.
 -- Assumes nothing.
 use mathlib.Core.Path.{_≡_, refl, sym, _∙_, ap}
-use mathlib.Core.Bool.{true}
+use mathlib.Core.Bool.{true, cond}
 use lib.IntN.{ℤ}
 use Rattle.settings.specs.declared.Settings.{Settings}
 use Rattle.settings.specs.declared.Checked.the-variants.{Accepted, Refused}
 use Rattle.record.specs.declared.Drive.{Drive}
-use Rattle.settings.specs.Settings.{accepted, checked}
+use Rattle.fixed.proofs.LadderLaws.{answered-by}
+use Rattle.settings.specs.Settings.{refusals, refusal, accepted, checked}
 use Rattle.settings.proofs.Ranges.{checked-accepted, checked-refused}
 use Rattle.record.specs.Record.{sound, broken}
 use Rattle.drive.specs.declared.Made.the-variants.{Ready, Refused as refuses}
@@ -21,10 +22,12 @@ refused-broken d n e = rw (checked-refused (d .settings) n e .0) refl
 pub ready-accepted : (s a : Settings) → checked s ≡ Accepted a → accepted a ≡ true
 ready-accepted s a e = let h = checked-accepted s a e in rw (h .1) at (h .0)
 
+pub made-is : (s : Settings) → made s ≡ cond (accepted s) (Ready (fresh s)) (refuses (refusal s))
+unfolding made accepted refusal
+made-is s = answered-by refuses (refusals s) (Ready (fresh s))
+
 pub made-ready : (s a : Settings) → checked s ≡ Accepted a → made s ≡ Ready (fresh a)
-unfolding made
-made-ready s a e = let h = checked-accepted s a e in rw (h .0) (ap (λ (x : Settings). Ready (fresh x)) (h .1))
+made-ready s a e = let h = checked-accepted s a e in rw (made-is s, h .0) (ap (λ (x : Settings). Ready (fresh x)) (h .1))
 
 pub made-refused : (s : Settings) (n : ℤ) → checked s ≡ Refused n → made s ≡ refuses n
-unfolding made
-made-refused s n e = let h = checked-refused s n e in rw (h .0) (ap refuses (sym (h .1)))
+made-refused s n e = let h = checked-refused s n e in rw (made-is s, h .0) (ap refuses (sym (h .1)))

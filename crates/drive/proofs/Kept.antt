@@ -66,7 +66,7 @@ aimed-sound d wanted h w = record {
 
 -- ════ every call, accepted or refused
 pub step-taken : (d : Drive) (ia ib count : ℤ) → Sound d → stepped d ia ib count ≡ taken d ia ib count
-unfolding stepped
+unfolding stepped taken
 step-taken d ia ib count h = rw (not-broken d .1 h) refl
 
 pub taken-sound : (d : Drive) (ia ib count : ℤ) → Sound d → Sound (taken d ia ib count .drive)

@@ -1,9 +1,12 @@
--- The public calls, each an equation for every record and every number (document 01, "Numbers handed back").
-use mathlib.Core.Bool.{true, false, cond}
+-- The public calls, each an equation for every record and every number (document 01, "Numbers handed back"). A call is its table, the rows in their
+-- order of precedence, each with test, number and effect; and what is answered where none applies, which has number 0. A new number is a new row.
+use mathlib.Core.Bool.{true, false}
+use mathlib.Core.List.{List, [], _∷_}
 use lib.IntN.{ℤ, pos}
 use Rattle.shaft.specs.Shaft.{unmoved}
 use Rattle.field.specs.Field.{still}
 use Rattle.fixed.specs.Fixed.{inside}
+use Rattle.fixed.specs.Ladder.{Rung, when, unless, answerOf, answeredBy}
 use Rattle.settings.specs.declared.Settings.{Settings}
 use Rattle.record.specs.declared.Command.{Command}
 use Rattle.record.specs.declared.Drive.{Drive}
@@ -11,7 +14,7 @@ use Rattle.drive.specs.declared.Made.{Made}
 use Rattle.drive.specs.declared.Made.the-variants.{Ready, Refused}
 use Rattle.stages.specs.declared.Stepped.{Stepped}
 use Rattle.drive.specs.declared.Answered.{Answered}
-use Rattle.settings.specs.Settings.{refusal, accepted}
+use Rattle.settings.specs.Settings.{refusals}
 use Rattle.record.specs.Record.{targetEnd, broken}
 use Rattle.stages.specs.Step.{sampleOk, advanced}
 
@@ -29,8 +32,11 @@ fresh s = record {
 }
 
 -- either a drive or a number, never both
+abbrev pub makeTable : Settings → List (Rung Made)
+makeTable s = answeredBy Refused (refusals s)
+
 unfoldable pub made : Settings → Made
-made s = cond (accepted s) (Ready (fresh s)) (Refused (refusal s))
+made s = answerOf (makeTable s) (Ready (fresh s))
 
 -- 01's number of each case
 abbrev pub numberOf : Made → ℤ
@@ -49,25 +55,31 @@ tripped d = record {
   tripped = true;
 }
 
--- a refused step: the drive, a number, three equal compares t, not clipped, no voltage
+-- a refused step: the drive, three equal compares t, a number, not clipped, no voltage
 unfoldable pub refused : Drive → ℤ → ℤ → Stepped
-refused d number t = record {
+refused d t number = record {
   drive = d;
   number = number;
   pulses = record { a = t; b = t; c = t; clipped = false };
   voltage = record { alpha = pos 0; beta = pos 0 };
 }
 
--- on a record that is not broken: 7 comes before 6; both give T, T, T
-unfoldable pub taken : Drive → ℤ → ℤ → ℤ → Stepped
-taken d ia ib count =
-    cond (d .tripped) (refused d (pos 7) (d .settings .t))
-    (cond (sampleOk ia ib count) (advanced d ia ib count)
-    (refused (tripped d) (pos 6) (d .settings .t)))
+-- on a record that is not broken, T, T, T: 7 has state same, 6 state same but marked tripped
+abbrev pub soundTable : Drive → ℤ → ℤ → ℤ → List (Rung Stepped)
+soundTable d ia ib count =
+    when (d .tripped) 7 (refused d (d .settings .t))
+    ∷ unless (sampleOk ia ib count) 6 (refused (tripped d) (d .settings .t))
+    ∷ []
 
--- 14 comes before every other number, and gives 0, 0, 0
+unfoldable pub taken : Drive → ℤ → ℤ → ℤ → Stepped
+taken d ia ib count = answerOf (soundTable d ia ib count) (advanced d ia ib count)
+
+-- 14 comes before every other number: state same and 0, 0, 0
+abbrev pub stepTable : Drive → ℤ → ℤ → ℤ → List (Rung Stepped)
+stepTable d ia ib count = when (broken d) 14 (refused d (pos 0)) ∷ soundTable d ia ib count
+
 unfoldable pub stepped : Drive → ℤ → ℤ → ℤ → Stepped
-stepped d ia ib count = cond (broken d) (refused d (pos 14) (pos 0)) (taken d ia ib count)
+stepped d ia ib count = answerOf (stepTable d ia ib count) (advanced d ia ib count)
 
 -- ════ a target
 -- an accepted target replaces the target and nothing else
@@ -88,18 +100,17 @@ aimed d wanted = record {
 abbrev pub with : Drive → ℤ → Answered
 with d number = record { drive = d; number = number }
 
--- 14 before 7 before 8
+-- refused, state same
+abbrev pub targetTable : Drive → ℤ → List (Rung Answered)
+targetTable d wanted = when (broken d) 14 (with d) ∷ when (d .tripped) 7 (with d) ∷ unless (inside (pos targetEnd) wanted) 8 (with d) ∷ []
+
 unfoldable pub targeted : Drive → ℤ → Answered
-targeted d wanted =
-    cond (broken d) (with d (pos 14))
-    (cond (d .tripped) (with d (pos 7))
-    (cond (inside (pos targetEnd) wanted) (with (aimed d wanted) (pos 0))
-    (with d (pos 8))))
+targeted d wanted = answerOf (targetTable d wanted) (with (aimed d wanted) (pos 0))
 
 -- ════ clear
--- 14 before 10; clear gives the fresh drive of the same settings
+-- refused, state same; else the fresh drive of the same settings
+abbrev pub clearTable : Drive → List (Rung Answered)
+clearTable d = when (broken d) 14 (with d) ∷ unless (d .tripped) 10 (with d) ∷ []
+
 unfoldable pub cleared : Drive → Answered
-cleared d =
-    cond (broken d) (with d (pos 14))
-    (cond (d .tripped) (with (fresh (d .settings)) (pos 0))
-    (with d (pos 10)))
+cleared d = answerOf (clearTable d) (with (fresh (d .settings)) (pos 0))

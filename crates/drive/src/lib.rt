@@ -89,8 +89,8 @@ fn trip(d: Drive) -> Drive
     n
 }
 
-fn refused(d: Drive, number: i32, t: i32) -> Stepped
-    ensures { λ r. ⌜ r ≡ refusedOf d number t ⌝ }
+fn refused(d: Drive, t: i32, number: i32) -> Stepped
+    ensures { λ r. ⌜ r ≡ refusedOf d t number ⌝ }
 {
     Stepped {
         drive: d,
@@ -111,12 +111,12 @@ pub fn take(d: Drive, ia: i32, ib: i32, count: i32, table: &sine::Table) -> Step
     ensures { λ r. ⌜ r ≡ taken d ia ib count ⌝ }
 {
     if d.tripped {
-        return refused(d, 7, d.settings.t);
+        return refused(d, d.settings.t, 7);
     }
     if stages::sample_ok(ia, ib, count) {
         stages::advance(d, ia, ib, count, table)
     } else {
-        refused(trip(d), 6, d.settings.t)
+        refused(trip(d), d.settings.t, 6)
     }
 }
 
@@ -125,7 +125,7 @@ pub fn step(d: Drive, ia: i32, ib: i32, count: i32) -> Stepped
     ensures { λ r. ⌜ r ≡ stepped d ia ib count ⌝ }
 {
     if !record::sound(d) {
-        return refused(d, 14, 0);
+        return refused(d, 0, 14);
     }
     let table = sine::table();
     take(d, ia, ib, count, &table)

@@ -2,13 +2,17 @@
 -- number that stands at no place is never given.
 -- Assumes nothing.
 use Prim.Native.Nat.{ℕ, zero, suc}
+use native.Mathlib.Omega.{arith}
+use borrow.Author.Tests.{lt-leb}
 use mathlib.Core.Path.{_≡_, refl, sym, _∙_, ap, subst}
-use mathlib.Core.Bool.{Bool, true, false, not, true≢false, false≢true}
+use mathlib.Core.Bool.{Bool, true, false, not, cond, true≢false, false≢true}
 use mathlib.Core.List.{List, [], _∷_}
 use mathlib.Core.Logic.{_↔_}
 use lib.Dec.{T, eqb, eqb-refl}
 use lib.IntN.{ℤ, pos, natAbs}
-use Rattle.fixed.specs.Ladder.{Rung, when, unless, gives, firstOf, answerOf, numberAt, answerAt, Reached, Exactly, allGive, other, distinct, Numbered}
+use lib.ListN.{length}
+use lib.Signed.{leZ}
+use Rattle.fixed.specs.Ladder.{Rung, when, unless, gives, firstOf, answerOf, allPass, numberAt, answerAt, Reached, Exactly, allGive, other, distinct, Numbered, answeredBy}
 use Rattle.fixed.proofs.HeldLaws.{and-left, and-right}
 
 -- a number that is other than n is not n
@@ -18,6 +22,11 @@ differs n m o e = absurd (by (eqb n n) (eqb-refl n) (subst (λ (k : ℕ). other 
     by : (b : Bool) → T b → not b ≡ true → ⊥
     by true t u = false≢true u
     by false t u = t
+
+-- nor is it 0 or below where it is other than 0
+over : (n : ℕ) → other n 0 ≡ true → leZ (pos n) (pos 0) ≡ false
+over zero o = absurd (false≢true o)
+over (suc n) o = lt-leb (suc n) 0 (omega arith)
 
 module _ {A : Type 0} where
   -- ════ what passes 0 and every number of a ladder passes the number that comes out, and the number at any place
@@ -32,6 +41,10 @@ module _ {A : Type 0} where
   all-at p [] i h = h
   all-at p (r ∷ rs) zero h = and-left (p (gives r)) _ h
   all-at p (r ∷ rs) (suc i) h = all-at p rs i (and-right (p (gives r)) _ h)
+
+  at-none : (p : ℕ → Bool) (rs : List (Rung A)) → allGive p rs ≡ true → p 0 ≡ true
+  at-none p [] h = h
+  at-none p (r ∷ rs) h = at-none p rs (and-right (p (gives r)) _ h)
 
   -- a number that stands at no place is never given
   pub never : (n : ℕ) (rs : List (Rung A)) → allGive (other n) rs ≡ true → firstOf rs ≡ n → ⊥
@@ -76,8 +89,8 @@ module _ {A : Type 0} where
   -- ════ what holds of each rung's answer where it decides, and of z where none does, holds of the answer
   abbrev pub Each : (A → Type 0) → List (Rung A) → A → Type 0
   Each Q [] z = Q z
-  Each Q (when test n x ∷ rs) z = (test ≡ true → Q x) × (test ≡ false → Each Q rs z)
-  Each Q (unless test n x ∷ rs) z = (test ≡ false → Q x) × (test ≡ true → Each Q rs z)
+  Each Q (when test n x ∷ rs) z = (test ≡ true → Q (x (pos n))) × (test ≡ false → Each Q rs z)
+  Each Q (unless test n x ∷ rs) z = (test ≡ false → Q (x (pos n))) × (test ≡ true → Each Q rs z)
 
   each : (Q : A → Type 0) (rs : List (Rung A)) (z : A) → Each Q rs z → Q (answerOf rs z)
   each Q [] z h = h
@@ -85,6 +98,22 @@ module _ {A : Type 0} where
   each Q (when false n x ∷ rs) z h = each Q rs z (h .1 refl)
   each Q (unless false n x ∷ rs) z h = h .0 refl
   each Q (unless true n x ∷ rs) z h = each Q rs z (h .1 refl)
+
+  -- ════ none decides exactly when the place past the last is reached
+  pub all-pass : (rs : List (Rung A)) → allPass rs ≡ true ↔ Reached rs (length rs)
+  all-pass [] = (λ h. tt, λ h. refl)
+  all-pass (when true n x ∷ rs) = (λ h. absurd (false≢true h), λ h. absurd (true≢false (h .0)))
+  all-pass (when false n x ∷ rs) = let e = all-pass rs in (λ h. (refl, e .0 h), λ h. e .1 (h .1))
+  all-pass (unless false n x ∷ rs) = (λ h. absurd (false≢true h), λ h. absurd (false≢true (h .0)))
+  all-pass (unless true n x ∷ rs) = let e = all-pass rs in (λ h. (refl, e .0 h), λ h. e .1 (h .1))
+
+  -- that is, exactly when the number is at most 0
+  pub none-given : (rs : List (Rung A)) → distinct rs ≡ true → leZ (pos (firstOf rs)) (pos 0) ≡ allPass rs
+  none-given [] h = refl
+  none-given (when true n x ∷ rs) h = over n (at-none (other n) rs (and-left (allGive (other n) rs) _ h))
+  none-given (when false n x ∷ rs) h = none-given rs (and-right (allGive (other n) rs) _ h)
+  none-given (unless false n x ∷ rs) h = over n (at-none (other n) rs (and-left (allGive (other n) rs) _ h))
+  none-given (unless true n x ∷ rs) h = none-given rs (and-right (allGive (other n) rs) _ h)
 
   -- ════ an answer that is the ladder's, with the numbers of its rungs, which differ
   pub record Climbs (number : A → ℤ) (rs : List (Rung A)) (z answer : A) : Type 0 where
@@ -108,3 +137,11 @@ module _ {A : Type 0} where
 
     pub holds : (Q : A → Type 0) → Each Q rs z → Q answer
     holds Q h = subst Q (sym (c .is)) (each Q rs z h)
+
+-- ════ one answer for all numbers: it is given, with the number that comes out, where not all pass
+pub answered-by : {A B : Type 0} (x : ℤ → B) (rs : List (Rung A)) (z : B) → answerOf (answeredBy x rs) z ≡ cond (allPass rs) z (x (pos (firstOf rs)))
+answered-by x [] z = refl
+answered-by x (when true n y ∷ rs) z = refl
+answered-by x (when false n y ∷ rs) z = answered-by x rs z
+answered-by x (unless false n y ∷ rs) z = refl
+answered-by x (unless true n y ∷ rs) z = answered-by x rs z

@@ -1,5 +1,5 @@
--- A ladder of numbers: tests in their order, each with the number that it gives and what is answered then. The first that gives one
--- decides; where none does the number is 0.
+-- A ladder of numbers, which is how a table of refusals is written down: tests in their order, each with its number and what is answered with that
+-- number. The first that applies decides; where none does the number is 0.
 use Prim.Native.Nat.{ℕ, zero, suc}
 use mathlib.Core.Path.{_≡_}
 use mathlib.Core.Bool.{Bool, true, false, not, cond, _&&_}
@@ -8,10 +8,10 @@ use mathlib.Core.Logic.{_↔_}
 use lib.Dec.{eqb}
 use lib.IntN.{ℤ, pos}
 
--- the number and the answer are given when the test holds, or unless it holds
+-- the number, and the answer with it, are given when the test holds, or unless it holds
 pub data Rung (A : Type 0) : Type 0 where
-  when : Bool → ℕ → A → Rung A
-  unless : Bool → ℕ → A → Rung A
+  when : Bool → ℕ → (ℤ → A) → Rung A
+  unless : Bool → ℕ → (ℤ → A) → Rung A
 
 abbrev pub other : ℕ → ℕ → Bool
 other n m = not (eqb m n)
@@ -39,8 +39,14 @@ module _ {A : Type 0} where
   -- the answer, z where no rung decides
   abbrev pub answerOf : List (Rung A) → A → A
   answerOf [] z = z
-  answerOf (when test n x ∷ rs) z = cond test x (answerOf rs z)
-  answerOf (unless test n x ∷ rs) z = cond test (answerOf rs z) x
+  answerOf (when test n x ∷ rs) z = cond test (x (pos n)) (answerOf rs z)
+  answerOf (unless test n x ∷ rs) z = cond test (answerOf rs z) (x (pos n))
+
+  -- whether none decides
+  abbrev pub allPass : List (Rung A) → Bool
+  allPass [] = true
+  allPass (when test n x ∷ rs) = not test && allPass rs
+  allPass (unless test n x ∷ rs) = test && allPass rs
 
   -- the number at a place, counted from 0, and the answer there; past the last rung they are 0 and z
   abbrev pub numberAt : List (Rung A) → ℕ → ℕ
@@ -50,8 +56,8 @@ module _ {A : Type 0} where
 
   abbrev pub answerAt : List (Rung A) → A → ℕ → A
   answerAt [] z i = z
-  answerAt (when test n x ∷ rs) z zero = x
-  answerAt (unless test n x ∷ rs) z zero = x
+  answerAt (when test n x ∷ rs) z zero = x (pos n)
+  answerAt (unless test n x ∷ rs) z zero = x (pos n)
   answerAt (r ∷ rs) z (suc i) = answerAt rs z i
 
   -- a place is reached: every rung before it passes, and its own decides
@@ -76,5 +82,11 @@ module _ {A : Type 0} where
 
   abbrev pub Numbered : (A → ℤ) → List (Rung A) → A → Type 0
   Numbered number [] z = number z ≡ pos 0
-  Numbered number (when test n x ∷ rs) z = (number x ≡ pos n) × Numbered number rs z
-  Numbered number (unless test n x ∷ rs) z = (number x ≡ pos n) × Numbered number rs z
+  Numbered number (when test n x ∷ rs) z = (number (x (pos n)) ≡ pos n) × Numbered number rs z
+  Numbered number (unless test n x ∷ rs) z = (number (x (pos n)) ≡ pos n) × Numbered number rs z
+
+-- the same tests and numbers, each with one answer for all of them
+abbrev pub answeredBy : {A B : Type 0} → (ℤ → B) → List (Rung A) → List (Rung B)
+answeredBy x [] = []
+answeredBy x (when test n y ∷ rs) = when test n x ∷ answeredBy x rs
+answeredBy x (unless test n y ∷ rs) = unless test n x ∷ answeredBy x rs

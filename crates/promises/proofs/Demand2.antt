@@ -9,9 +9,8 @@ use lib.IntN.{ℤ}
 use lib.ListN.{length}
 use Rattle.record.specs.declared.Drive.{Drive}
 use Rattle.record.proofs.Ranges.{not-broken}
-use Rattle.drive.specs.Calls.{fresh}
+use Rattle.drive.specs.Calls.{stepTable, fresh}
 use Rattle.rows.specs.Rows.{isAccepted, isClipped, one, none, afterRow, ranOf, writtenOf, rowsIn, rowsFit}
-use Rattle.promises.specs.Table.{stepTable}
 use Rattle.promises.specs.Histories.{afterAll, rowAt, countOf}
 use Rattle.promises.specs.Demand2.{StepByTheRules, RunByRows, RunAccepted, RunOfNone, StaysUnbroken, NeverBroken, SettingsStay, SettingsAsAccepted}
 use Rattle.promises.proofs.Demand1.{step-table, passed, run-table}

@@ -24,7 +24,7 @@ use Rattle.drive.specs.Calls.{fresh, tripped, refused, stepped, aimed, cleared}
 use Rattle.drive.proofs.Kept.{fresh-sound}
 use Rattle.rows.specs.Rows.{rowStepped, isAccepted, one, none, afterRow, ranOf, rowsIn, rowsFit, runOf}
 use Rattle.rows.proofs.Runs.{rows-sound}
-use Rattle.promises.specs.Table.{Run, runAccepted}
+use Rattle.promises.specs.Demand1.{Run, allRun}
 use Rattle.promises.specs.Histories.{Call, stepping, aiming, clearing, running, after, afterAll, rowAt, countOf, Quiet, isTick, ticksIn, ticksOf, stepsIn, stepsOf, clears, NoClear, since}
 use Rattle.promises.specs.Ramp.{EveryThirtieth, ThirtiethsOfAny, TicksCounted, QuietNoClear}
 use Rattle.promises.proofs.Demand1.{by-outcome, target-climbs, clear-climbs, clear-table, run-climbs}
@@ -89,7 +89,7 @@ module _ (d : Drive) (h : Sound d) where
       let Q : Bool → Run → Type 0 = λ f r. Window d (r .0 .drive) (cond f ticks 0) (r .0 .accepted) in
       let fit = rowsFit (length samples) (length out) in
       holds (run-climbs d samples out) (Q fit)
-      (λ b. intact b, λ b. (λ f. subst (λ f. Q f (none d (pos 9), out)) (sym f) still, λ f. subst (λ f. Q f (runAccepted d samples out)) (sym f) (rows-window d samples (rowsIn samples) h)))
+      (λ b. intact b, λ b. (λ f. subst (λ f. Q f (none d (pos 9), out)) (sym f) still, λ f. subst (λ f. Q f (allRun d samples out)) (sym f) (rows-window d samples (rowsIn samples) h)))
 
   -- a clear that is not accepted leaves the drive
   uncleared : clears d clearing ≡ false → cleared d .drive ≡ d

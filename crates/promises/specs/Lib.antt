@@ -1,4 +1,3 @@
-pub mod Table
 pub mod Demand1
 pub mod Histories
 pub mod Demand2

@@ -23,7 +23,7 @@ use Rattle.rows.proofs.run.Reads as run
 use Rattle.rows.proofs.run.Kinds as run-kinds
 use Rattle.drive.specs.Calls.{made, numberOf, stepped, targeted, cleared}
 use Rattle.rows.specs.Rows.{runOf, outOf}
-use Rattle.promises.specs.Table.{Run}
+use Rattle.promises.specs.Demand1.{Run}
 
 -- a call with n lifetimes, parameters ps and result r, that asks and ensures so much. Its outcome is read of the result u and of what the parameters
 -- are at exit, x. Of all arguments a it asks nothing; it allows an outcome exactly when this is the definition's; and no second one

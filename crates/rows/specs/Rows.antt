@@ -6,6 +6,7 @@ use lib.ListN.{length, getD, drop}
 use lib.Dec.{leb, eqb}
 use lib.IntN.{ℤ, pos}
 use Rattle.fixed.specs.Fixed.{within}
+use Rattle.fixed.specs.Ladder.{Rung, when, unless, answerOf}
 use Rattle.record.specs.declared.Drive.{Drive}
 use Rattle.record.specs.Record.{broken}
 use Rattle.stages.specs.declared.Stepped.{Stepped}
@@ -64,16 +65,14 @@ rowsIn samples = length samples / 3
 unfoldable pub rowsFit : ℕ → ℕ → Bool
 rowsFit samples out = eqb (samples % 3) 0 && leb (4 * (samples / 3)) out
 
--- 14 before 9; else the run's own number is 0
-unfoldable pub runOf : Drive → List ℤ → List ℤ → Ran
-runOf d samples out =
-    cond (broken d) (none d (pos 14))
-    (cond (rowsFit (length samples) (length out)) (ranOf d samples (rowsIn samples))
-    (none d (pos 9)))
+-- its table, with what is answered where it is refused
+abbrev pub runTable : {A : Type 0} → Drive → List ℤ → List ℤ → (ℤ → A) → List (Rung A)
+runTable d samples out refused = when (broken d) 14 refused ∷ unless (rowsFit (length samples) (length out)) 9 refused ∷ []
 
--- the output after it: a run that is refused writes nothing; numbers past the rows' output stay
+-- refused, state same and both counts 0; else the run's own number is 0
+unfoldable pub runOf : Drive → List ℤ → List ℤ → Ran
+runOf d samples out = answerOf (runTable d samples out (none d)) (ranOf d samples (rowsIn samples))
+
+-- the output after it: refused, nothing written; else numbers past the rows' output stay
 unfoldable pub outOf : Drive → List ℤ → List ℤ → List ℤ
-outOf d samples out =
-    cond (broken d) out
-    (cond (rowsFit (length samples) (length out)) (writtenOf d samples (rowsIn samples) ++ drop (4 * rowsIn samples) out)
-    out)
+outOf d samples out = answerOf (runTable d samples out (λ number. out)) (writtenOf d samples (rowsIn samples) ++ drop (4 * rowsIn samples) out)

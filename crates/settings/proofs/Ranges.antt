@@ -7,11 +7,12 @@ use lib.Signed.{leZ, ≤ℤ-refl}
 use Rattle.fixed.specs.Fixed.{isIn}
 use Rattle.fixed.proofs.Ring.{≤-antisym}
 use Rattle.fixed.proofs.HeldLaws.{and-both, within-lo, within-hi, within-yes}
-use Rattle.fixed.proofs.Ranges.{In, two, three, four, five}
+use Rattle.fixed.proofs.LadderLaws.{all-pass, none-given, answered-by}
+use Rattle.fixed.proofs.Ranges.{In, two, three, four}
 use Rattle.settings.specs.declared.Settings.{Settings}
 use Rattle.settings.specs.declared.Checked.the-variants.{Accepted, Refused}
 use Rattle.settings.specs.Ranges as range
-use Rattle.settings.specs.Settings.{periodOk, gainOk, gainsOk, tied, gainsTied, limitsOk, restOk, unless, refusal, accepted, checked}
+use Rattle.settings.specs.Settings.{periodOk, gainOk, gainsOk, tied, gainsTied, limitsOk, restOk, refusals, refusal, accepted, checked}
 
 -- one gain set
 pub record GainsIn (kp kcor ki : ℤ) : Type 0 where
@@ -52,28 +53,15 @@ gains← : (kp kcor ki : ℤ) → GainsIn kp kcor ki → gainOk kp kcor ki ≡ t
 unfolding gainOk
 gains← kp kcor ki g = and-both (and-both (g .kp-in) (g .kcor-in)) (g .ki-in)
 
--- nothing refuses exactly when all five tests pass
-passed : (a b c d e : Bool) → leZ (unless a (pos 1) (unless b (pos 2) (unless c (pos 3) (unless d (pos 4) (unless e (pos 5) (pos 0)))))) (pos 0) ≡ (a && b && c && d && e)
-passed false b c d e = refl
-passed true false c d e = refl
-passed true true false d e = refl
-passed true true true false e = refl
-passed true true true true false = refl
-passed true true true true true = refl
-
-tests : (s : Settings) → accepted s ≡ (periodOk s && gainsOk s && gainsTied s && limitsOk s && restOk s)
-unfolding accepted refusal
-tests s = passed (periodOk s) (gainsOk s) (gainsTied s) (limitsOk s) (restOk s)
-
 pub accepted→ : (s : Settings) → accepted s ≡ true → SettingsIn s
-unfolding periodOk gainsOk gainsTied limitsOk restOk
+unfolding accepted periodOk gainsOk gainsTied limitsOk restOk
 accepted→ s h =
-    let e = five (periodOk s) (gainsOk s) (gainsTied s) (limitsOk s) (restOk s) (sym (tests s) ∙ h) in
-    let g = two (gainOk (s .skp) (s .skcor) (s .ski)) (gainOk (s .ckp) (s .ckcor) (s .cki)) (e .1) in
-    let t = two (tied (s .skp) (s .skcor) (s .ski)) (tied (s .ckp) (s .ckcor) (s .cki)) (e .2) in
-    let l = two (isIn range.v (s .v)) (isIn range.q (s .q)) (e .3) in
+    let e = all-pass (refusals s) .0 h in
+    let g = two (gainOk (s .skp) (s .skcor) (s .ski)) (gainOk (s .ckp) (s .ckcor) (s .cki)) (e .1 .0) in
+    let t = two (tied (s .skp) (s .skcor) (s .ski)) (tied (s .ckp) (s .ckcor) (s .cki)) (e .1 .1 .0) in
+    let l = two (isIn range.v (s .v)) (isIn range.q (s .q)) (e .1 .1 .1 .0) in
     let m = isIn range.kr (s .kr) && isIn range.kt (s .kt) && isIn range.kth (s .kth) in
-    let i = four m (isIn range.kn (s .kn)) (isIn range.f (s .f)) (isIn range.r (s .r)) (e .4) in
+    let i = four m (isIn range.kn (s .kn)) (isIn range.f (s .f)) (isIn range.r (s .r)) (e .1 .1 .1 .1 .0) in
     let j = three (isIn range.kr (s .kr)) (isIn range.kt (s .kt)) (isIn range.kth (s .kth)) (i .0) in
     record {
       t = e .0;
@@ -90,29 +78,32 @@ accepted→ s h =
     }
 
 pub accepted← : (s : Settings) → SettingsIn s → accepted s ≡ true
-unfolding periodOk gainsOk gainsTied limitsOk restOk
+unfolding accepted periodOk gainsOk gainsTied limitsOk restOk
 accepted← s i =
-    tests s
-    ∙ and-both
-    (and-both
-    (and-both
-    (and-both (i .t) (and-both (gains← _ _ _ (i .speed)) (gains← _ _ _ (i .current))))
-    (and-both (tied← _ _ _ (i .speed .is-tied)) (tied← _ _ _ (i .current .is-tied))))
-    (and-both (i .v) (i .q)))
-    (and-both (and-both (and-both (and-both (and-both (i .kr) (i .kt)) (i .kth)) (i .kn)) (i .f)) (i .r))
+    let gains = and-both (gains← _ _ _ (i .speed)) (gains← _ _ _ (i .current)) in
+    let ties = and-both (tied← _ _ _ (i .speed .is-tied)) (tied← _ _ _ (i .current .is-tied)) in
+    let rest = and-both (and-both (and-both (and-both (and-both (i .kr) (i .kt)) (i .kth)) (i .kn)) (i .f)) (i .r) in
+    all-pass (refusals s) .1 (i .t, (gains, (ties, (and-both (i .v) (i .q), (rest, tt)))))
 
 -- ════ the check
+pub checked-is : (s : Settings) → checked s ≡ cond (accepted s) (Accepted s) (Refused (refusal s))
+unfolding checked accepted refusal
+checked-is s = answered-by Refused (refusals s) (Accepted s)
+
+-- accepted exactly where the number is at most 0
+pub accepted-is : (s : Settings) → leZ (refusal s) (pos 0) ≡ accepted s
+unfolding accepted refusal
+accepted-is s = none-given (refusals s) refl
+
 pub checked-accepted : (s r : Settings) → checked s ≡ Accepted r → (accepted s ≡ true) × (s ≡ r)
-unfolding checked
-checked-accepted s r = by (accepted s) refl
+checked-accepted s r h = by (accepted s) refl (sym (checked-is s) ∙ h)
   where
     by : (b : Bool) → accepted s ≡ b → cond b (Accepted s) (Refused (refusal s)) ≡ Accepted r → (accepted s ≡ true) × (s ≡ r)
     by true e h = (e, cc)
     by false e h = absurd (let z : _≡_ {A = Bool} true false = cc in true≢false z)
 
 pub checked-refused : (s : Settings) (n : ℤ) → checked s ≡ Refused n → (accepted s ≡ false) × (n ≡ refusal s)
-unfolding checked
-checked-refused s n = by (accepted s) refl
+checked-refused s n h = by (accepted s) refl (sym (checked-is s) ∙ h)
   where
     by : (b : Bool) → accepted s ≡ b → cond b (Accepted s) (Refused (refusal s)) ≡ Refused n → (accepted s ≡ false) × (n ≡ refusal s)
     by true e h = absurd (let z : _≡_ {A = Bool} true false = cc in true≢false z)

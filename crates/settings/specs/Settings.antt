@@ -1,8 +1,9 @@
 -- The settings, and when they are refused (document 01, "Settings" and numbers 1 to 5 of "Numbers handed back").
-use mathlib.Core.Bool.{Bool, cond, _&&_}
+use mathlib.Core.Bool.{Bool, _&&_}
+use mathlib.Core.List.{List, [], _∷_}
 use lib.IntN.{ℤ, pos, _*ℤ_}
-use lib.Signed.{leZ}
 use Rattle.fixed.specs.Fixed.{within, isIn}
+use Rattle.fixed.specs.Ladder.{Rung, unless, answerOf, firstOf, allPass}
 use Rattle.settings.specs.declared.Settings.{Settings}
 use Rattle.settings.specs.declared.Checked.{Checked}
 use Rattle.settings.specs.declared.Checked.the-variants.{Accepted, Refused}
@@ -37,25 +38,26 @@ restOk s =
     && isIn range.f (s .f)
     && isIn range.r (s .r)
 
--- the number where a test fails, else what comes after it
-abbrev pub unless : Bool → ℤ → ℤ → ℤ
-unless ok number others = cond ok others number
+-- ════ the table: T; a Kp, Kcor or Ki; a gain set that breaks 4096·Ki = Kp·Kcor; V or Q; Kr, Kt, Kth, Kn, F or R. The lowest number decides
+abbrev pub refusals : Settings → List (Rung Checked)
+refusals s =
+    unless (periodOk s) 1 Refused
+    ∷ unless (gainsOk s) 2 Refused
+    ∷ unless (gainsTied s) 3 Refused
+    ∷ unless (limitsOk s) 4 Refused
+    ∷ unless (restOk s) 5 Refused
+    ∷ []
 
--- the lowest number that applies to settings; 0 where none does
+-- what settings answer: themselves, or the number that refuses them
+unfoldable pub checked : Settings → Checked
+checked s = answerOf (refusals s) (Accepted s)
+
+-- that number, 0 where none does, and whether none does
 unfoldable pub refusal : Settings → ℤ
-refusal s =
-    unless (periodOk s) (pos 1)
-    (unless (gainsOk s) (pos 2)
-    (unless (gainsTied s) (pos 3)
-    (unless (limitsOk s) (pos 4)
-    (unless (restOk s) (pos 5) (pos 0)))))
+refusal s = pos (firstOf (refusals s))
 
 unfoldable pub accepted : Settings → Bool
-accepted s = leZ (refusal s) (pos 0)
-
--- ════ what settings answer: themselves, or the number that refuses them
-unfoldable pub checked : Settings → Checked
-checked s = cond (accepted s) (Accepted s) (Refused (refusal s))
+accepted s = allPass (refusals s)
 
 -- 01's number of each case
 abbrev pub numberOf : Checked → ℤ

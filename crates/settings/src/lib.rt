@@ -13,7 +13,6 @@ ghost use Rattle.settings.specs.Settings.{
   refusal as refusalOf,
   accepted,
   checked,
-  numberOf,
 };
 ghost use Rattle.settings.specs.Words.{wordsOf, settingsOf, size};
 ghost use Rattle.settings.specs.Bench.{bench as benchOf};
@@ -162,15 +161,6 @@ pub fn check(s: Settings) -> Checked
         Checked::Accepted(s)
     } else {
         Checked::Refused(number)
-    }
-}
-
-pub fn number_of(c: Checked) -> i32
-    ensures { λ r. ⌜ r ≡ numberOf c ⌝ }
-{
-    match c {
-        Checked::Accepted(_) => 0,
-        Checked::Refused(n) => n,
     }
 }
 

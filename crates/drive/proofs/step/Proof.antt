@@ -4,7 +4,7 @@ use mathlib.Core.Path.{_≡_}
 use mathlib.Core.Bool.{true}
 use mir.Facts.{toZ-ofZ}
 use Rattle.record.specs.Record.{sound, broken}
-use Rattle.drive.specs.Calls.{stepped}
+use Rattle.drive.specs.Calls.{taken, stepped}
 use Rattle.fixed.proofs.Asked.{no, yes}
 use Rattle.drive.proofs.step.Statement.{statement}
 use Rattle.drive.proofs.step.Tie as tie
@@ -17,7 +17,7 @@ is-sound : (c : tie.Else1) → sound (c .before .before .args .d) ≡ true
 is-sound c = yes (c .before .sound .ensures) (c .if1 .left)
 
 returns-2 : tie.Need-returns-2
-unfolding stepped broken
+unfolding stepped taken broken
 returns-2 c =
     let e = c .before .before .before in
     let f = e .before .before .fits in
