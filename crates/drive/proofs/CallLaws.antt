@@ -5,11 +5,11 @@ use mathlib.Core.Bool.{true, cond}
 use lib.IntN.{ℤ}
 use Rattle.settings.specs.declared.Settings.{Settings}
 use Rattle.settings.specs.declared.Checked.the-variants.{Accepted, Refused}
-use Rattle.record.specs.declared.Drive.{Drive}
+use Rattle.drive_record.specs.declared.Drive.{Drive}
 use Rattle.fixed.proofs.LadderLaws.{answered-by}
 use Rattle.settings.specs.Settings.{refusals, refusal, accepted, checked}
 use Rattle.settings.proofs.Ranges.{checked-accepted, checked-refused}
-use Rattle.record.specs.Record.{sound, broken}
+use Rattle.drive_record.specs.Record.{sound, broken}
 use Rattle.drive.specs.declared.Made.the-variants.{Ready, Refused as refuses}
 use Rattle.drive.specs.Calls.{fresh, made}
 

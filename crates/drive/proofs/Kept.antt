@@ -14,14 +14,14 @@ use Rattle.settings.specs.declared.Checked.the-variants.{Accepted}
 use Rattle.settings.specs.Settings.{accepted, checked}
 use Rattle.settings.specs.Ranges as range
 use Rattle.settings.proofs.Ranges.{accepted→, accepted←}
-use Rattle.record.specs.declared.Drive.{Drive}
-use Rattle.record.specs.Record.{targetEnd, sound, broken}
-use Rattle.record.proofs.Ranges.{Sound, sound←, not-broken}
+use Rattle.drive_record.specs.declared.Drive.{Drive}
+use Rattle.drive_record.specs.Record.{targetEnd, sound, broken}
+use Rattle.drive_record.proofs.Ranges.{Sound, sound←, not-broken}
 use Rattle.stages.specs.declared.Stepped.{Stepped}
 use Rattle.stages.specs.Step.{sampleOk}
 use Rattle.stages.proofs.Kept.{choose, advanced-sound}
 use Rattle.drive.specs.declared.Answered.{Answered}
-use Rattle.drive.specs.Calls.{fresh, tripped, refused, taken, stepped, aimedAt, aimed, targeted, cleared}
+use Rattle.drive.specs.Calls.{fresh, withTrip, refused, steppedSound, stepped, retargeted, withTarget, targeted, cleared}
 use Rattle.drive.proofs.CallLaws.{ready-accepted}
 
 -- ════ a fresh drive
@@ -49,14 +49,14 @@ pub checked-sound : (s a : Settings) → checked s ≡ Accepted a → sound (fre
 checked-sound s a e = sound← (fresh a) (fresh-sound a (ready-accepted s a e))
 
 -- ════ a trip and a target
-pub tripped-sound : (d : Drive) → Sound d → Sound (tripped d)
-unfolding tripped
-tripped-sound d h =
+pub trip-sound : (d : Drive) → Sound d → Sound (withTrip d)
+unfolding withTrip
+trip-sound d h =
     record { settings = h .settings; shaft = h .shaft; command = h .command; field = h .field; integrals = h .integrals }
 
-pub aimed-sound : (d : Drive) (wanted : ℤ) → Sound d → Inside (pos targetEnd) wanted → Sound (aimed d wanted)
-unfolding aimed aimedAt
-aimed-sound d wanted h w = record {
+pub target-sound : (d : Drive) (wanted : ℤ) → Sound d → Inside (pos targetEnd) wanted → Sound (withTarget d wanted)
+unfolding withTarget retargeted
+target-sound d wanted h w = record {
   settings = h .settings;
   shaft = h .shaft;
   command = record { target = w; reference = h .command .reference; torque = h .command .torque; flux = h .command .flux };
@@ -65,20 +65,20 @@ aimed-sound d wanted h w = record {
 }
 
 -- ════ every call, accepted or refused
-pub step-taken : (d : Drive) (ia ib count : ℤ) → Sound d → stepped d ia ib count ≡ taken d ia ib count
-unfolding stepped taken
-step-taken d ia ib count h = rw (not-broken d .1 h) refl
+pub step-is-sound : (d : Drive) (ia ib count : ℤ) → Sound d → stepped d ia ib count ≡ steppedSound d ia ib count
+unfolding stepped steppedSound
+step-is-sound d ia ib count h = rw (not-broken d .1 h) refl
 
-pub taken-sound : (d : Drive) (ia ib count : ℤ) → Sound d → Sound (taken d ia ib count .drive)
-unfolding taken refused
-taken-sound d ia ib count h =
+pub sound-stays : (d : Drive) (ia ib count : ℤ) → Sound d → Sound (steppedSound d ia ib count .drive)
+unfolding steppedSound refused
+sound-stays d ia ib count h =
     let Q : Stepped → Type 0 = λ s. Sound (s .drive) in
     choose Q (d .tripped) _ _
     (λ t. h)
-    (λ t. choose Q (sampleOk ia ib count) _ _ (λ e. advanced-sound d ia ib count h e) (λ e. tripped-sound d h))
+    (λ t. choose Q (sampleOk ia ib count) _ _ (λ e. advanced-sound d ia ib count h e) (λ e. trip-sound d h))
 
 pub stepped-sound : (d : Drive) (ia ib count : ℤ) → Sound d → Sound (stepped d ia ib count .drive)
-stepped-sound d ia ib count h = rw (step-taken d ia ib count h) (taken-sound d ia ib count h)
+stepped-sound d ia ib count h = rw (step-is-sound d ia ib count h) (sound-stays d ia ib count h)
 
 pub targeted-sound : (d : Drive) (wanted : ℤ) → Sound d → Sound (targeted d wanted .drive)
 unfolding targeted inside
@@ -86,7 +86,7 @@ targeted-sound d wanted h =
     let Q : Answered → Type 0 = λ a. Sound (a .drive) in
     choose Q (broken d) _ _
     (λ b. h)
-    (λ b. choose Q (d .tripped) _ _ (λ t. h) (λ t. choose Q (inside (pos targetEnd) wanted) _ _ (λ w. aimed-sound d wanted h w) (λ w. h)))
+    (λ b. choose Q (d .tripped) _ _ (λ t. h) (λ t. choose Q (inside (pos targetEnd) wanted) _ _ (λ w. target-sound d wanted h w) (λ w. h)))
 
 pub cleared-sound : (d : Drive) → Sound d → Sound (cleared d .drive)
 unfolding cleared

@@ -8,14 +8,14 @@ use Rattle.field.specs.Field.{still}
 use Rattle.fixed.specs.Fixed.{inside}
 use Rattle.fixed.specs.Ladder.{Rung, when, unless, answerOf, answeredBy}
 use Rattle.settings.specs.declared.Settings.{Settings}
-use Rattle.record.specs.declared.Command.{Command}
-use Rattle.record.specs.declared.Drive.{Drive}
+use Rattle.drive_record.specs.declared.Command.{Command}
+use Rattle.drive_record.specs.declared.Drive.{Drive}
 use Rattle.drive.specs.declared.Made.{Made}
 use Rattle.drive.specs.declared.Made.the-variants.{Ready, Refused}
 use Rattle.stages.specs.declared.Stepped.{Stepped}
 use Rattle.drive.specs.declared.Answered.{Answered}
 use Rattle.settings.specs.Settings.{refusals}
-use Rattle.record.specs.Record.{targetEnd, broken}
+use Rattle.drive_record.specs.Record.{targetEnd, broken}
 use Rattle.stages.specs.Step.{sampleOk, advanced}
 
 -- ════ settings: a fresh drive, or a number
@@ -39,14 +39,14 @@ unfoldable pub made : Settings → Made
 made s = answerOf (makeTable s) (Ready (fresh s))
 
 -- 01's number of each case
-abbrev pub numberOf : Made → ℤ
-numberOf (Ready d) = pos 0
-numberOf (Refused n) = n
+abbrev pub madeNumber : Made → ℤ
+madeNumber (Ready d) = pos 0
+madeNumber (Refused n) = n
 
 -- ════ a step
 -- the state, but marked tripped
-unfoldable pub tripped : Drive → Drive
-tripped d = record {
+unfoldable pub withTrip : Drive → Drive
+withTrip d = record {
   settings = d .settings;
   shaft = d .shaft;
   command = d .command;
@@ -68,11 +68,11 @@ refused d t number = record {
 abbrev pub soundTable : Drive → ℤ → ℤ → ℤ → List (Rung Stepped)
 soundTable d ia ib count =
     when (d .tripped) 7 (refused d (d .settings .t))
-    ∷ unless (sampleOk ia ib count) 6 (refused (tripped d) (d .settings .t))
+    ∷ unless (sampleOk ia ib count) 6 (refused (withTrip d) (d .settings .t))
     ∷ []
 
-unfoldable pub taken : Drive → ℤ → ℤ → ℤ → Stepped
-taken d ia ib count = answerOf (soundTable d ia ib count) (advanced d ia ib count)
+unfoldable pub steppedSound : Drive → ℤ → ℤ → ℤ → Stepped
+steppedSound d ia ib count = answerOf (soundTable d ia ib count) (advanced d ia ib count)
 
 -- 14 comes before every other number: state same and 0, 0, 0
 abbrev pub stepTable : Drive → ℤ → ℤ → ℤ → List (Rung Stepped)
@@ -83,34 +83,34 @@ stepped d ia ib count = answerOf (stepTable d ia ib count) (advanced d ia ib cou
 
 -- ════ a target
 -- an accepted target replaces the target and nothing else
-unfoldable pub aimedAt : Command → ℤ → Command
-aimedAt c wanted = record { target = wanted; reference = c .reference; torque = c .torque; flux = c .flux }
+unfoldable pub retargeted : Command → ℤ → Command
+retargeted c wanted = record { target = wanted; reference = c .reference; torque = c .torque; flux = c .flux }
 
-unfoldable pub aimed : Drive → ℤ → Drive
-aimed d wanted = record {
+unfoldable pub withTarget : Drive → ℤ → Drive
+withTarget d wanted = record {
   settings = d .settings;
   shaft = d .shaft;
-  command = aimedAt (d .command) wanted;
+  command = retargeted (d .command) wanted;
   field = d .field;
   integrals = d .integrals;
   tripped = d .tripped;
 }
 
 -- the drive and a number
-abbrev pub with : Drive → ℤ → Answered
-with d number = record { drive = d; number = number }
+abbrev pub answered : Drive → ℤ → Answered
+answered d number = record { drive = d; number = number }
 
 -- refused, state same
 abbrev pub targetTable : Drive → ℤ → List (Rung Answered)
-targetTable d wanted = when (broken d) 14 (with d) ∷ when (d .tripped) 7 (with d) ∷ unless (inside (pos targetEnd) wanted) 8 (with d) ∷ []
+targetTable d wanted = when (broken d) 14 (answered d) ∷ when (d .tripped) 7 (answered d) ∷ unless (inside (pos targetEnd) wanted) 8 (answered d) ∷ []
 
 unfoldable pub targeted : Drive → ℤ → Answered
-targeted d wanted = answerOf (targetTable d wanted) (with (aimed d wanted) (pos 0))
+targeted d wanted = answerOf (targetTable d wanted) (answered (withTarget d wanted) (pos 0))
 
 -- ════ clear
 -- refused, state same; else the fresh drive of the same settings
 abbrev pub clearTable : Drive → List (Rung Answered)
-clearTable d = when (broken d) 14 (with d) ∷ unless (d .tripped) 10 (with d) ∷ []
+clearTable d = when (broken d) 14 (answered d) ∷ unless (d .tripped) 10 (answered d) ∷ []
 
 unfoldable pub cleared : Drive → Answered
-cleared d = answerOf (clearTable d) (with (fresh (d .settings)) (pos 0))
+cleared d = answerOf (clearTable d) (answered (fresh (d .settings)) (pos 0))

@@ -3,25 +3,25 @@
 ghost use mathlib.Core.Path.{_≡_};
 ghost use mathlib.Core.Bool.{true};
 ghost use Rattle.sine.specs.Sine.{sineTable};
-ghost use Rattle.record.specs.Record.{sound as soundOf};
+ghost use Rattle.drive_record.specs.Record.{sound as soundOf};
 ghost use Rattle.drive.specs.Calls.{
   fresh as freshOf,
   made,
-  numberOf,
-  tripped as trippedOf,
+  madeNumber,
+  withTrip,
   refused as refusedOf,
-  taken,
+  steppedSound,
   stepped,
-  aimed as aimedOf,
-  with,
+  withTarget,
+  answered,
   targeted,
   cleared,
 };
+use drive_record::Command;
+use drive_record::Drive;
+use drive_record::Integrals;
 use frames::Stator;
 use modulation::Pulses;
-use record::Command;
-use record::Drive;
-use record::Integrals;
 use settings::Checked;
 use settings::Settings;
 use stages::Stepped;
@@ -73,7 +73,7 @@ pub fn make(s: Settings) -> Made
 }
 
 pub fn number_of(m: Made) -> i32
-    ensures { λ r. ⌜ r ≡ numberOf m ⌝ }
+    ensures { λ r. ⌜ r ≡ madeNumber m ⌝ }
 {
     match m {
         Made::Ready(_) => 0,
@@ -81,8 +81,8 @@ pub fn number_of(m: Made) -> i32
     }
 }
 
-fn trip(d: Drive) -> Drive
-    ensures { λ r. ⌜ r ≡ trippedOf d ⌝ }
+fn with_trip(d: Drive) -> Drive
+    ensures { λ r. ⌜ r ≡ withTrip d ⌝ }
 {
     let mut n = d;
     n.tripped = true;
@@ -106,9 +106,9 @@ fn refused(d: Drive, t: i32, number: i32) -> Stepped
 }
 
 // A step on a record that has been tested: what a run does for each row.
-pub fn take(d: Drive, ia: i32, ib: i32, count: i32, table: &sine::Table) -> Stepped
+pub fn step_sound(d: Drive, ia: i32, ib: i32, count: i32, table: &sine::Table) -> Stepped
     requires { ⌜ (soundOf d ≡ true) × (now table ≡ sineTable) ⌝ }
-    ensures { λ r. ⌜ r ≡ taken d ia ib count ⌝ }
+    ensures { λ r. ⌜ r ≡ steppedSound d ia ib count ⌝ }
 {
     if d.tripped {
         return refused(d, d.settings.t, 7);
@@ -116,7 +116,7 @@ pub fn take(d: Drive, ia: i32, ib: i32, count: i32, table: &sine::Table) -> Step
     if stages::sample_ok(ia, ib, count) {
         stages::advance(d, ia, ib, count, table)
     } else {
-        refused(trip(d), d.settings.t, 6)
+        refused(with_trip(d), d.settings.t, 6)
     }
 }
 
@@ -124,15 +124,15 @@ pub fn take(d: Drive, ia: i32, ib: i32, count: i32, table: &sine::Table) -> Step
 pub fn step(d: Drive, ia: i32, ib: i32, count: i32) -> Stepped
     ensures { λ r. ⌜ r ≡ stepped d ia ib count ⌝ }
 {
-    if !record::sound(d) {
+    if !drive_record::sound(d) {
         return refused(d, 0, 14);
     }
     let table = sine::table();
-    take(d, ia, ib, count, &table)
+    step_sound(d, ia, ib, count, &table)
 }
 
-fn aimed(d: Drive, wanted: i32) -> Drive
-    ensures { λ r. ⌜ r ≡ aimedOf d wanted ⌝ }
+fn with_target(d: Drive, wanted: i32) -> Drive
+    ensures { λ r. ⌜ r ≡ withTarget d wanted ⌝ }
 {
     let mut command = d.command;
     command.target = wanted;
@@ -142,7 +142,7 @@ fn aimed(d: Drive, wanted: i32) -> Drive
 }
 
 fn answer(d: Drive, number: i32) -> Answered
-    ensures { λ r. ⌜ r ≡ with d number ⌝ }
+    ensures { λ r. ⌜ r ≡ answered d number ⌝ }
 {
     Answered {
         drive: d,
@@ -154,7 +154,7 @@ fn answer(d: Drive, number: i32) -> Answered
 pub fn target(d: Drive, wanted: i32) -> Answered
     ensures { λ r. ⌜ r ≡ targeted d wanted ⌝ }
 {
-    if !record::sound(d) {
+    if !drive_record::sound(d) {
         return answer(d, 14);
     }
     if d.tripped {
@@ -163,14 +163,14 @@ pub fn target(d: Drive, wanted: i32) -> Answered
     if !fixed::within(-8191, 8191, wanted) {
         return answer(d, 8);
     }
-    answer(aimed(d, wanted), 0)
+    answer(with_target(d, wanted), 0)
 }
 
 // After a trip: a fresh drive of the same settings.
 pub fn clear(d: Drive) -> Answered
     ensures { λ r. ⌜ r ≡ cleared d ⌝ }
 {
-    if !record::sound(d) {
+    if !drive_record::sound(d) {
         return answer(d, 14);
     }
     if d.tripped {

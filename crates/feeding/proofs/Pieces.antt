@@ -6,7 +6,7 @@ use mathlib.Core.List.{List, [], _∷_, _++_, append-assoc}
 use Prim.Native.Nat.{ℕ}
 use lib.IntN.{ℤ}
 use Rattle.text.specs.Automaton.{Reading}
-use Rattle.feeding.specs.Feeding.{Fed, lineDue, front, isGood, endFed, endText, byteFed, byteText, fedOf, textOf}
+use Rattle.feeding.specs.Feeding.{Fed, lineDue, front, isGood, endFed, endText, byteFed, byteText, fedOf, textFed}
 
 -- once a bad line came
 abbrev pub stoppedAt : {T : Type 0} → T → Reading → Fed T
@@ -45,8 +45,8 @@ module _ {T : Type 0} (fits : List ℤ → Bool) (after : T → List ℤ → T) 
   unfolding endText
   text-bad t r e = rw e refl
 
-  pub text-in-pieces : (s : Fed T) (xs ys : List ℕ) → textOf fits after answer s (xs ++ ys) ≡ textOf fits after answer s xs ++ textOf fits after answer (fedOf fits after s xs) ys
-  unfolding fedOf textOf
+  pub text-in-pieces : (s : Fed T) (xs ys : List ℕ) → textFed fits after answer s (xs ++ ys) ≡ textFed fits after answer s xs ++ textFed fits after answer (fedOf fits after s xs) ys
+  unfolding fedOf textFed
   text-in-pieces s [] ys = refl
   text-in-pieces s (x ∷ xs) ys =
       ap (λ (t : List ℕ). byteText fits answer s x ++ t) (text-in-pieces (byteFed fits after s x) xs ys) ∙ sym (append-assoc (byteText fits answer s x) _ _)
@@ -55,7 +55,7 @@ module _ {T : Type 0} (fits : List ℤ → Bool) (after : T → List ℤ → T) 
   unfolding byteText
   silent s b h = rw h refl
 
-  pub text-stopped : (s : Fed T) (bs : List ℕ) → s .stopped ≡ true → textOf fits after answer s bs ≡ []
-  unfolding textOf
+  pub text-stopped : (s : Fed T) (bs : List ℕ) → s .stopped ≡ true → textFed fits after answer s bs ≡ []
+  unfolding textFed
   text-stopped s [] h = refl
   text-stopped s (b ∷ bs) h = rw (stays fits after s b h, silent s b h) (text-stopped s bs h)

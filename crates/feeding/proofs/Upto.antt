@@ -17,7 +17,7 @@ use Rattle.text.specs.Decimal.{written}
 use Rattle.text.proofs.Choice.{true-or-false}
 use Rattle.text.proofs.Written.{written-none, written-length}
 use Rattle.text.proofs.TextLaws.{Put, put, put-then}
-use Rattle.feeding.specs.Feeding.{Part, partOf, Fed, lineDue, front, isGood, endFed, endText, byteFed, byteText, fedOf, textOf}
+use Rattle.feeding.specs.Feeding.{Part, partOf, Fed, lineDue, front, isGood, endFed, endText, byteFed, byteText, fedOf, textFed}
 use Rattle.feeding.proofs.Parts.{part-length, part-count}
 use Rattle.feeding.proofs.Pieces.{end-good, end-bad, text-good, text-bad, fed-stopped, text-stopped}
 
@@ -137,9 +137,9 @@ module _ {T : Type 0} (fits : List ℤ → Bool) (after : T → List ℤ → T) 
   partText t p = cond (p .ended) (endText fits answer t (p .reading)) []
 
   part-text : (s : Fed T) (b : ℕ) (bs : List ℕ) → s .stopped ≡ false →
-      textOf fits after answer s (b ∷ bs)
-      ≡ partText (s .kept) (partOf (s .reading) (b ∷ bs)) ++ textOf fits after answer (partFed fits after (s .kept) (partOf (s .reading) (b ∷ bs))) (partOf (s .reading) (b ∷ bs) .behind)
-  unfolding textOf partOf partFed partText
+      textFed fits after answer s (b ∷ bs)
+      ≡ partText (s .kept) (partOf (s .reading) (b ∷ bs)) ++ textFed fits after answer (partFed fits after (s .kept) (partOf (s .reading) (b ∷ bs))) (partOf (s .reading) (b ∷ bs) .behind)
+  unfolding textFed partOf partFed partText
   part-text s b [] h =
       ⊎-elim (λ e. rw (text-end s b h e, e) refl) (λ e. rw (text-on s b h e, e) refl) (true-or-false (eqb b 10))
   part-text s b (c ∷ cs) h =
@@ -149,7 +149,7 @@ module _ {T : Type 0} (fits : List ℤ → Bool) (after : T → List ℤ → T) 
       (true-or-false (eqb b 10))
 
   text-ahead : (cur : Fed T) (chunk : List ℕ) (i : ℕ) (p : Part) → i < length chunk → cur .stopped ≡ false → partOf (cur .reading) (drop i chunk) ≡ p →
-      textOf fits after answer cur (drop i chunk) ≡ partText (cur .kept) p ++ textOf fits after answer (partFed fits after (cur .kept) p) (p .behind)
+      textFed fits after answer cur (drop i chunk) ≡ partText (cur .kept) p ++ textFed fits after answer (partFed fits after (cur .kept) p) (p .behind)
   text-ahead cur chunk i p h g e = rw (← e, drop-cons chunk i 0 h) (part-text cur (getD chunk i 0) (drop (suc i) chunk) g)
 
   good-text : (t : T) (p : Part) → p .ended && isGood fits (p .reading) ≡ true → partText t p ≡ answer t (front (p .reading))
@@ -170,7 +170,7 @@ module _ {T : Type 0} (fits : List ℤ → Bool) (after : T → List ℤ → T) 
     pub near : place ≤ at + m * i
     pub long : length out ≡ length o
     pub text : List ℕ
-    pub all-text : textOf fits after answer s chunk ≡ text ++ textOf fits after answer cur (drop i chunk)
+    pub all-text : textFed fits after answer s chunk ≡ text ++ textFed fits after answer cur (drop i chunk)
     pub stands : Put o at text out place
 
   pub wrote-start : {m : ℕ} (s : Fed T) (chunk : List ℕ) (at : ℕ) (o : List ℕ) → at + m * length chunk ≤ length o → Wrote m s chunk at o o s at 0
@@ -192,7 +192,7 @@ module _ {T : Type 0} (fits : List ℤ → Bool) (after : T → List ℤ → T) 
           all-text =
               w .all-text
               ∙ ap (λ (z : List ℕ). w .text ++ z) (text-ahead cur chunk i p h g e ∙ rw (f, t, ← d) refl)
-              ∙ sym (append-assoc (w .text) x (textOf fits after answer n (drop j chunk)));
+              ∙ sym (append-assoc (w .text) x (textFed fits after answer n (drop j chunk)));
           stands = put-then (w .stands) y (omega (arith, w .stands .next, r, w .long));
         }
 
@@ -205,15 +205,15 @@ module _ {T : Type 0} (fits : List ℤ → Bool) (after : T → List ℤ → T) 
 
   -- the end: nothing is left to write
   module _ {m : ℕ} {s : Fed T} {chunk : List ℕ} {at : ℕ} {o out : List ℕ} {cur : Fed T} {place i : ℕ} (w : Wrote m s chunk at o out cur place i) (h : i ≤ length chunk) where
-    wrote-all : textOf fits after answer cur (drop i chunk) ≡ [] →
-        (place ≡ at + length (textOf fits after answer s chunk)) × (out ≡ written o at (textOf fits after answer s chunk)) × (place ≤ at + m * length chunk)
+    wrote-all : textFed fits after answer cur (drop i chunk) ≡ [] →
+        (place ≡ at + length (textFed fits after answer s chunk)) × (out ≡ written o at (textFed fits after answer s chunk)) × (place ≤ at + m * length chunk)
     wrote-all e =
-        let t : textOf fits after answer s chunk ≡ w .text = w .all-text ∙ ap (λ (l : List ℕ). w .text ++ l) e ∙ append-nil (w .text) in
+        let t : textFed fits after answer s chunk ≡ w .text = w .all-text ∙ ap (λ (l : List ℕ). w .text ++ l) e ∙ append-nil (w .text) in
         (rw t (w .stands .next), rw t (w .stands .wrote), omega (arith, w .near, mul-le-mul-left m h))
 
-    pub wrote-past : length chunk ≤ i → (place ≡ at + length (textOf fits after answer s chunk)) × (out ≡ written o at (textOf fits after answer s chunk)) × (place ≤ at + m * length chunk)
-    unfolding textOf
+    pub wrote-past : length chunk ≤ i → (place ≡ at + length (textFed fits after answer s chunk)) × (out ≡ written o at (textFed fits after answer s chunk)) × (place ≤ at + m * length chunk)
+    unfolding textFed
     wrote-past q = wrote-all (rw (drop-of-length-le chunk {i = i} q) refl)
 
-    pub wrote-stopped : cur .stopped ≡ true → (place ≡ at + length (textOf fits after answer s chunk)) × (out ≡ written o at (textOf fits after answer s chunk)) × (place ≤ at + m * length chunk)
+    pub wrote-stopped : cur .stopped ≡ true → (place ≡ at + length (textFed fits after answer s chunk)) × (out ≡ written o at (textFed fits after answer s chunk)) × (place ≤ at + m * length chunk)
     wrote-stopped q = wrote-all (text-stopped fits after answer cur (drop i chunk) q)

@@ -13,9 +13,9 @@ use Rattle.text.specs.Automaton.{Reading, readAll, lineRead}
 use Rattle.text.proofs.Lines.{read-more}
 use Rattle.text.proofs.Choice.{true-or-false}
 use Rattle.feeding.specs.Lines.{linesOf, restOf, any, goodIn, goodThen, goodOf, badOr, badOf, afterAll, answersTo}
-use Rattle.feeding.specs.Feeding.{Fed, lineAt, lineDue, front, isGood, endFed, endText, byteFed, byteText, fedOf, textOf}
+use Rattle.feeding.specs.Feeding.{Fed, lineAt, lineDue, front, isGood, endFed, endText, byteFed, byteText, fedOf, textFed}
 use Rattle.feeding.proofs.Parts.{read-length}
-use Rattle.feeding.proofs.Meaning.{Room, told, line-told}
+use Rattle.feeding.proofs.Meaning.{Room, from-bits, line-told}
 use Rattle.feeding.proofs.Pieces.{stoppedAt, end-good, end-bad, text-good, text-bad, fed-stopped, text-stopped}
 
 any-more : (p : List ℕ) (b : ℕ) → any (p ++ (b ∷ [])) ≡ true
@@ -35,7 +35,7 @@ module _ {T : Type 0} (fits : List ℤ → Bool) (after : T → List ℤ → T) 
     pub writes : x ≡ answersTo after answer t (goodOf fits ws)
 
   abbrev Coming : T → Fed T → List ℕ → List (List ℕ) → List ℕ → Type 0
-  Coming t s bs ws w = Comes t (fedOf fits after s bs) (textOf fits after answer s bs) ws w
+  Coming t s bs ws w = Comes t (fedOf fits after s bs) (textFed fits after answer s bs) ws w
 
   -- any other byte than a line feed
   byte-on : (t : T) (o : List ℤ) (p : List ℕ) (b : ℕ) → eqb b 10 ≡ false → byteFed fits after (within t o p) b ≡ within t o (p ++ (b ∷ []))
@@ -44,12 +44,12 @@ module _ {T : Type 0} (fits : List ℤ → Bool) (after : T → List ℤ → T) 
 
   at-byte : (t : T) (o : List ℤ) (p : List ℕ) (b : ℕ) (bs : List ℕ) → eqb b 10 ≡ false → Coming t (within t o (p ++ (b ∷ []))) bs (linesOf (p ++ (b ∷ [])) bs) (restOf (p ++ (b ∷ [])) bs) →
       Coming t (within t o p) (b ∷ bs) (linesOf p (b ∷ bs)) (restOf p (b ∷ bs))
-  unfolding fedOf textOf linesOf restOf byteText
+  unfolding fedOf textFed linesOf restOf byteText
   at-byte t o p b bs e c = rw (byte-on t o p b e, e) c
 
   -- a line has ended: a good one, behind which the others come, or the last that is looked at
-  ended : (t : T) (r : Reading) (p bs : List ℕ) (ws : List (List ℕ)) (w : List ℕ) → told fits r ≡ goodIn fits p → Coming (after t (front r)) (lineDue (after t (front r)) (r .numbers)) bs ws w →
-      Comes t (fedOf fits after (endFed fits after t r) bs) (endText fits answer t r ++ textOf fits after answer (endFed fits after t r) bs) (p ∷ ws) w
+  ended : (t : T) (r : Reading) (p bs : List ℕ) (ws : List (List ℕ)) (w : List ℕ) → from-bits fits r ≡ goodIn fits p → Coming (after t (front r)) (lineDue (after t (front r)) (r .numbers)) bs ws w →
+      Comes t (fedOf fits after (endFed fits after t r) bs) (endText fits answer t r ++ textFed fits after answer (endFed fits after t r) bs) (p ∷ ws) w
   unfolding goodOf goodThen badOf badOr afterAll answersTo
   ended t r p bs ws w l c =
       ⊎-elim
@@ -68,13 +68,13 @@ module _ {T : Type 0} (fits : List ℤ → Bool) (after : T → List ℤ → T) 
   at-feed : (n : ℕ) → Room fits n → (t : T) (o : List ℤ) (p : List ℕ) (b : ℕ) (bs : List ℕ) → length o ≡ n → eqb b 10 ≡ true →
       ((u : T) (k : List ℤ) → length k ≡ n → Coming u (lineDue u k) bs (linesOf [] bs) (restOf [] bs)) →
       Coming t (within t o p) (b ∷ bs) (linesOf p (b ∷ bs)) (restOf p (b ∷ bs))
-  unfolding fedOf textOf linesOf restOf byteFed byteText lineRead
+  unfolding fedOf textFed linesOf restOf byteFed byteText lineRead
   at-feed n room t o p b bs h e k =
       let r = lineRead o p in
       rw e (ended t r p bs (linesOf [] bs) (restOf [] bs) (line-told fits p o (rw h room)) (k (after t (front r)) (r .numbers) (read-length o p ∙ h)))
 
   lines : (n : ℕ) → Room fits n → (t : T) (o : List ℤ) (p bs : List ℕ) → length o ≡ n → Coming t (within t o p) bs (linesOf p bs) (restOf p bs)
-  unfolding fedOf textOf linesOf restOf goodOf badOf afterAll answersTo readAll any
+  unfolding fedOf textFed linesOf restOf goodOf badOf afterAll answersTo readAll any
   lines n room t o p [] h = record { keeps = refl; ends = refl; writes = refl }
   lines n room t o p (b ∷ bs) h =
       ⊎-elim

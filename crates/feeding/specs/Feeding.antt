@@ -62,9 +62,9 @@ unfoldable pub fedOf : {T : Type 0} → (List ℤ → Bool) → (T → List ℤ 
 fedOf fits after s [] = s
 fedOf fits after s (b ∷ bs) = fedOf fits after (byteFed fits after s b) bs
 
-unfoldable pub textOf : {T : Type 0} → (List ℤ → Bool) → (T → List ℤ → T) → (T → List ℤ → List ℕ) → Fed T → List ℕ → List ℕ
-textOf fits after answer s [] = []
-textOf fits after answer s (b ∷ bs) = byteText fits answer s b ++ textOf fits after answer (byteFed fits after s b) bs
+unfoldable pub textFed : {T : Type 0} → (List ℤ → Bool) → (T → List ℤ → T) → (T → List ℤ → List ℕ) → Fed T → List ℕ → List ℕ
+textFed fits after answer s [] = []
+textFed fits after answer s (b ∷ bs) = byteText fits answer s b ++ textFed fits after answer (byteFed fits after s b) bs
 
 -- chunks one behind the other
 unfoldable pub joined : {A : Type 0} → List (List A) → List A

@@ -1,4 +1,4 @@
 pub mod FieldLaws
 pub mod Cases
-pub mod FieldTold
+pub mod FieldFromBits
 pub mod FieldRanges

@@ -49,7 +49,7 @@ unfoldable pub fieldOk : Field → Bool
 fieldOk f = inside (pos fluxEnd) (f .flux) && isIn angles (f .angle)
 
 -- ════ what the code asks of its numbers
-pub record Sized (kr kt kth : ℤ) (f : Field) (d q n : ℤ) : Type 0 where
+pub record FieldSized (kr kt kth : ℤ) (f : Field) (d q n : ℤ) : Type 0 where
   pub kr-size : natAbs kr ≤ 4096
   pub kt-size : natAbs kt ≤ 32767
   pub kth-size : natAbs kth ≤ 8191

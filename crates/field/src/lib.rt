@@ -2,7 +2,7 @@
 ghost use mathlib.Core.Path.{_≡_};
 ghost use Prim.Native.Nat.{_≤_};
 ghost use lib.IntN.{natAbs, _+ℤ_};
-ghost use Rattle.field.specs.Field.{fluxNext, slip as slipOf, angleNext, followed as followedOf, fluxEnd, slipEnd, speedEnd, angles, still as stillOf, fieldOk, Sized};
+ghost use Rattle.field.specs.Field.{fluxNext, slip as slipOf, angleNext, followed as followedOf, fluxEnd, slipEnd, speedEnd, angles, still as stillOf, fieldOk, FieldSized};
 
 #[repr(C)]
 pub struct Field {
@@ -41,7 +41,7 @@ pub fn angle_next(kth: i32, angle: i32, n: i32, s: i32) -> i32
 
 // Rule 6.
 pub fn followed(kr: i32, kt: i32, kth: i32, f: Field, d: i32, q: i32, n: i32) -> Field
-    requires { ⌜ Sized kr kt kth f d q n ⌝ }
+    requires { ⌜ FieldSized kr kt kth f d q n ⌝ }
     ensures { λ r. ⌜ r ≡ followedOf kr kt kth f d q n ⌝ }
 {
     let flux = flux_next(kr, f.flux, d);

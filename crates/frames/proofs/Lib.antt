@@ -1,5 +1,5 @@
 pub mod Products
 pub mod FrameLaws
 pub mod Cases
-pub mod RotorTold
-pub mod StatorTold
+pub mod RotorFromBits
+pub mod StatorFromBits

@@ -34,7 +34,7 @@ inversePark v sin cos = record {
 }
 
 -- what the code asks of two components and of an angle's two functions
-pub record Sized (a b m n : ℤ) : Type 0 where
+pub record FrameSized (a b m n : ℤ) : Type 0 where
   pub a-size : natAbs a ≤ 16383
   pub b-size : natAbs b ≤ 16383
   pub m-size : natAbs m ≤ 4096

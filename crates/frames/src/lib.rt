@@ -3,7 +3,7 @@ ghost use mathlib.Core.Path.{_≡_};
 ghost use Prim.Native.Nat.{_≤_};
 ghost use lib.IntN.{pos, natAbs, _+ℤ_, _-ℤ_, _*ℤ_};
 ghost use Rattle.fixed.specs.Fixed.{down as downOf};
-ghost use Rattle.frames.specs.Frames.{clarke as clarkeOf, park as parkOf, inversePark, Sized, sampleEnd};
+ghost use Rattle.frames.specs.Frames.{clarke as clarkeOf, park as parkOf, inversePark, FrameSized, sampleEnd};
 
 // In the stator's frame, which stands still.
 pub struct Stator {
@@ -19,7 +19,7 @@ pub struct Rotor {
 
 // (a·m + b·n)/4096 down.
 fn sum(a: i32, m: i32, b: i32, n: i32) -> i32
-    requires { ⌜ Sized a b m n ⌝ }
+    requires { ⌜ FrameSized a b m n ⌝ }
     ensures { λ r. ⌜ r ≡ downOf (a *ℤ m +ℤ b *ℤ n) (pos 4096) ⌝ }
 {
     fixed::down(fixed::times(a, m) + fixed::times(b, n), 4096) as i32
@@ -27,7 +27,7 @@ fn sum(a: i32, m: i32, b: i32, n: i32) -> i32
 
 // (a·m − b·n)/4096 down.
 fn difference(a: i32, m: i32, b: i32, n: i32) -> i32
-    requires { ⌜ Sized a b m n ⌝ }
+    requires { ⌜ FrameSized a b m n ⌝ }
     ensures { λ r. ⌜ r ≡ downOf (a *ℤ m -ℤ b *ℤ n) (pos 4096) ⌝ }
 {
     fixed::down(fixed::times(a, m) - fixed::times(b, n), 4096) as i32
@@ -45,7 +45,7 @@ pub fn clarke(ia: i32, ib: i32) -> Stator
 }
 
 pub fn park(v: Stator, sin: i32, cos: i32) -> Rotor
-    requires { ⌜ Sized (v .alpha) (v .beta) sin cos ⌝ }
+    requires { ⌜ FrameSized (v .alpha) (v .beta) sin cos ⌝ }
     ensures { λ r. ⌜ r ≡ parkOf v sin cos ⌝ }
 {
     Rotor {
@@ -55,7 +55,7 @@ pub fn park(v: Stator, sin: i32, cos: i32) -> Rotor
 }
 
 pub fn inverse_park(v: Rotor, sin: i32, cos: i32) -> Stator
-    requires { ⌜ Sized (v .d) (v .q) sin cos ⌝ }
+    requires { ⌜ FrameSized (v .d) (v .q) sin cos ⌝ }
     ensures { λ r. ⌜ r ≡ inversePark v sin cos ⌝ }
 {
     Stator {

@@ -1,8 +1,8 @@
 -- The structs of the calls in place, as InPlace takes them. Assumes nothing.
 use Rattle.settings.proofs.Settings as Settings
 use Rattle.settings.proofs.Settings.Laws as Settings′
-use Rattle.record.proofs.Drive as Drive
-use Rattle.record.proofs.Drive.Laws as Drive′
+use Rattle.drive_record.proofs.Drive as Drive
+use Rattle.drive_record.proofs.Drive.Laws as Drive′
 use Rattle.stages.proofs.Stepped as Stepped
 use Rattle.stages.proofs.Stepped.Laws as Stepped′
 use Rattle.drive.proofs.Answered as Answered

@@ -1,11 +1,11 @@
 -- What each call on a record in place hands back, and the record that it leaves, beside `drive`'s definitions.
 use Rattle.settings.specs.declared.Settings.{Settings}
-use Rattle.record.specs.declared.Drive.{Drive}
+use Rattle.drive_record.specs.declared.Drive.{Drive}
 use Rattle.drive.specs.declared.Made.{Made}
 use Rattle.drive.specs.declared.Made.the-variants.{Ready, Refused}
 use Rattle.stages.specs.declared.Stepped.{Stepped}
 use Rattle.drive.specs.declared.Answered.{Answered}
-use Rattle.drive.specs.Calls.{made, numberOf, with}
+use Rattle.drive.specs.Calls.{made, madeNumber, answered}
 use Rattle.interrupt.specs.declared.Output.{Output}
 
 -- all that a step answers but the record
@@ -27,4 +27,4 @@ driveOr d (Refused number) = d
 
 -- the fresh drive of accepted settings and 0, or d and the number that refuses them
 abbrev pub started : Drive → Settings → Answered
-started d s = with (driveOr d (made s)) (numberOf (made s))
+started d s = answered (driveOr d (made s)) (madeNumber (made s))

@@ -2,11 +2,11 @@
 // function of `drive` that takes it by value, stores the record that comes back, and answers with the rest. The calls move the record
 // whole and look at no word of it.
 ghost use mathlib.Core.Path.{_≡_};
-ghost use Rattle.drive.specs.Calls.{made, numberOf, stepped, targeted, cleared};
+ghost use Rattle.drive.specs.Calls.{made, madeNumber, stepped, targeted, cleared};
 ghost use Rattle.interrupt.specs.Interrupt.{outputOf, driveOr, started as startedOf};
 use drive::Answered;
 use drive::Made;
-use record::Drive;
+use drive_record::Drive;
 use settings::Settings;
 use stages::Stepped;
 
@@ -106,7 +106,7 @@ pub extern "C" fn mirgalhet_clear(d: &mut Drive) -> i32
 // A fresh drive with these settings in the place of the record; where they are refused the record stays as it was.
 #[no_mangle]
 pub extern "C" fn mirgalhet_start(d: &mut Drive, settings: Settings) -> i32
-    ensures { λ r. ⌜ (r ≡ numberOf (made settings)) × (now (d .exit) ≡ driveOr (now (d .entry)) (made settings)) ⌝ }
+    ensures { λ r. ⌜ (r ≡ madeNumber (made settings)) × (now (d .exit) ≡ driveOr (now (d .entry)) (made settings)) ⌝ }
 {
     let a = started(*d, settings);
     *d = answered_drive(a);

@@ -14,9 +14,9 @@ use Rattle.fixed.proofs.Parts.{order, diffs, is-diff, parts-+, parts--, P-neg, 
 use Rattle.fixed.proofs.Ring.{*-nonneg}
 use Rattle.fixed.proofs.Size.{abs←}
 use Rattle.fixed.proofs.DownLaws.{down-low, down-high, down-low-parts, down-high-parts, le-down}
-use Rattle.modulation.specs.declared.Row.{Row}
+use Rattle.modulation.specs.declared.Sector.{Sector}
 use Rattle.modulation.specs.declared.Times.{Times}
-use Rattle.modulation.specs.Modulation.{A, B, entriesOf, rowOf, timeOf, timesOf, compareAt, placed, modulated, InPeriod, AllInPeriod, on, Near, AsAsked, Room}
+use Rattle.modulation.specs.Modulation.{A, B, entriesOf, sectorOf, timeOf, timesOf, compareAt, placed, modulated, InPeriod, AllInPeriod, on, Near, AsAsked, Room}
 use Rattle.modulation.proofs.Sectors.{level, serves}
 use Rattle.modulation.proofs.Clipping.{Kept, kept, clipped-room}
 
@@ -25,12 +25,12 @@ time-up : (t e : ℤ) → pos 0 ≤ℤ t → pos 0 ≤ℤ e → pos 0 ≤ℤ tim
 unfolding timeOf
 time-up t e h k = le-down (t *ℤ e) (pos 16777216) (pos 0) (ltZ-yes tt) (*-nonneg h k)
 
-pub times-up : (t va vb : ℤ) → pos 0 ≤ℤ t → (pos 0 ≤ℤ timeOf t (rowOf (entriesOf va vb) .t1)) × (pos 0 ≤ℤ timeOf t (rowOf (entriesOf va vb) .t2))
+pub times-up : (t va vb : ℤ) → pos 0 ≤ℤ t → (pos 0 ≤ℤ timeOf t (sectorOf (entriesOf va vb) .t1)) × (pos 0 ≤ℤ timeOf t (sectorOf (entriesOf va vb) .t2))
 times-up t va vb h =
     let s = serves va vb in
-    (time-up t (rowOf (entriesOf va vb) .t1) h (s .one), time-up t (rowOf (entriesOf va vb) .t2) h (s .two))
+    (time-up t (sectorOf (entriesOf va vb) .t1) h (s .one), time-up t (sectorOf (entriesOf va vb) .t2) h (s .two))
 
-pub times-room : (t va vb : ℤ) → pos 0 ≤ℤ t → Room t (timesOf t (rowOf (entriesOf va vb)))
+pub times-room : (t va vb : ℤ) → pos 0 ≤ℤ t → Room t (timesOf t (sectorOf (entriesOf va vb)))
 unfolding timesOf
 times-room t va vb h = clipped-room t _ _ h (times-up t va vb h .0) (times-up t va vb h .1)
 
@@ -54,7 +54,7 @@ compare-within (suc (suc k)) t h r = all-within t h r .2
 pub compares-within : (t va vb : ℤ) → pos 0 ≤ℤ t → AllInPeriod t (modulated t va vb)
 unfolding modulated placed
 compares-within t va vb h =
-    let r = rowOf (entriesOf va vb) in
+    let r = sectorOf (entriesOf va vb) in
     let m = times-room t va vb h in
     (compare-within (r .a) t (timesOf t r) m, compare-within (r .b) t (timesOf t r) m, compare-within (r .c) t (timesOf t r) m)
 
@@ -83,10 +83,10 @@ sums-close : (t f g m n p : ℤ) → Short unit (t *ℤ f) (pos unit *ℤ m) →
 sums-close t f g m n p =
     rw (is-diff t, is-diff f, is-diff g, is-diff m, is-diff n, is-diff p) (simp diffs (omega arith))
 
-abbrev sum : ℕ → ℤ → Row → ℤ
+abbrev sum : ℕ → ℤ → Sector → ℤ
 sum k t r = pos unit *ℤ compareAt k t (timeOf t (r .t1)) (timeOf t (r .t2)) +ℤ t *ℤ level k r
 
-sum-close : (k : ℕ) (t : ℤ) (r : Row) → Close (sum 0 t r) (sum k t r)
+sum-close : (k : ℕ) (t : ℤ) (r : Sector) → Close (sum 0 t r) (sum k t r)
 unfolding compareAt
 sum-close k t r = at k
   where
@@ -104,7 +104,7 @@ apart : (t c d l m top : ℤ) → Close top (pos unit *ℤ c +ℤ t *ℤ l) → 
 apart t c d l m top = rw (is-diff t, is-diff c, is-diff d, is-diff l, is-diff m, is-diff top) (simp diffs (omega arith))
 
 -- any two places, of times that are not clipped
-pair : (t : ℤ) (r : Row) (h : Times) (i j : ℕ) {d : ℤ} → Kept t (timeOf t (r .t1)) (timeOf t (r .t2)) h → level i r -ℤ level j r ≡ d
+pair : (t : ℤ) (r : Sector) (h : Times) (i j : ℕ) {d : ℤ} → Kept t (timeOf t (r .t1)) (timeOf t (r .t2)) h → level i r -ℤ level j r ≡ d
     → Near t (on t (compareAt i t (h .t1) (h .t2)) -ℤ on t (compareAt j t (h .t1) (h .t2))) d
 pair t r h i j {d} w e =
     let m = timeOf t (r .t1) in
@@ -115,7 +115,7 @@ pair t r h i j {d} w e =
 pub on-times : (t va vb : ℤ) → modulated t va vb .clipped ≡ false → AsAsked t va vb (modulated t va vb)
 unfolding modulated placed timesOf entriesOf
 on-times t va vb e =
-    let r = rowOf (entriesOf va vb) in
+    let r = sectorOf (entriesOf va vb) in
     let h = timesOf t r in
     let s = serves va vb in
     let w = kept t (timeOf t (r .t1)) (timeOf t (r .t2)) e in

@@ -11,17 +11,17 @@ use lib.IntN.{ℤ, pos, negℤ, _+ℤ_, _-ℤ_, _*ℤ_}
 use lib.Signed.{_≤ℤ_, _<ℤ_, ltZ, ltZ-yes, ltZ-no}
 use Rattle.fixed.proofs.Parts.{P, N, order, parts-+, parts--, parts-*, P-neg, N-neg}
 use Rattle.modulation.specs.declared.Entries.{Entries}
-use Rattle.modulation.specs.declared.Row.{Row}
-use Rattle.modulation.specs.Modulation.{A, B, entriesOf, bit, numberOf, rowAt, rowOf}
+use Rattle.modulation.specs.declared.Sector.{Sector}
+use Rattle.modulation.specs.Modulation.{A, B, entriesOf, bit, sectorNumber, sectorAt, sectorOf}
 
 -- ════ what is shown of a row
 -- the level of a phase that goes on at place k: by how much it is asked to be on for longer than the third, in T/2^24
-abbrev pub level : ℕ → Row → ℤ
+abbrev pub level : ℕ → Sector → ℤ
 level zero r = r .t1 +ℤ r .t2
 level (suc zero) r = r .t2
 level (suc (suc k)) r = pos 0
 
-pub record Serves (e : Entries) (r : Row) : Type 0 where
+pub record Serves (e : Entries) (r : Sector) : Type 0 where
   pub one : pos 0 ≤ℤ r .t1
   pub two : pos 0 ≤ℤ r .t2
   pub a-b : level (r .a) r -ℤ level (r .b) r ≡ negℤ (e .z)
@@ -30,7 +30,7 @@ pub record Serves (e : Entries) (r : Row) : Type 0 where
 
 -- and of the number that picks it
 record At (e : Entries) (n : ℕ) : Type 0 where
-  pub serves : Serves e (rowAt n e)
+  pub serves : Serves e (sectorAt n e)
   pub most : n ≤ 6
   pub none : n ≡ 0 → (e .x ≡ pos 0) × (e .y ≡ pos 0)
 
@@ -90,7 +90,7 @@ side v = by (ltZ (pos 0) v) (λ t. ltZ-yes t) (λ t. ltZ-no t)
 -- the row that three outcomes pick; that all three hold cannot be, since X is Y + Z
 at : (e : Entries) → Known (e .x) (e .y) (e .z)
     → (i j k : Bool) → Side i (e .x) → Side j (negℤ (e .z)) → Side k (negℤ (e .y)) → At e (cond i 1 0 + cond j 2 0 + cond k 4 0)
-unfolding rowAt
+unfolding sectorAt
 at e q false false false hx hz hy = omega (arith, gap, order)
 at e q true false false hx hz hy = omega (arith, gap, order)
 at e q false true false hx hz hy = omega (arith, gap, order)
@@ -100,8 +100,8 @@ at e q true false true hx hz hy = omega (arith, gap, order)
 at e q false true true hx hz hy = omega (arith, gap, order)
 at e q true true true hx hz hy = absurd (omega (arith, order))
 
-chosen : (va vb : ℤ) → At (entriesOf va vb) (numberOf (entriesOf va vb))
-unfolding entriesOf numberOf bit
+chosen : (va vb : ℤ) → At (entriesOf va vb) (sectorNumber (entriesOf va vb))
+unfolding entriesOf sectorNumber bit
 chosen va vb =
     let e = entriesOf va vb in
     at e (known (e .x) (e .y) (e .z) (sum (A va) (B vb))) (ltZ (pos 0) (e .x)) (ltZ (pos 0) (negℤ (e .z))) (ltZ (pos 0) (negℤ (e .y)))
@@ -113,14 +113,14 @@ chosen va vb =
     sum a b = omega (arith, order, parts-* (pos 2) b, parts-+ a b, parts-- b a, parts-+ (a +ℤ b) (b -ℤ a))
 
 -- ════ of every voltage
-pub serves : (va vb : ℤ) → Serves (entriesOf va vb) (rowOf (entriesOf va vb))
-unfolding rowOf
+pub serves : (va vb : ℤ) → Serves (entriesOf va vb) (sectorOf (entriesOf va vb))
+unfolding sectorOf
 serves va vb = chosen va vb .serves
 
-pub at-most-six : (va vb : ℤ) → numberOf (entriesOf va vb) ≤ 6
+pub at-most-six : (va vb : ℤ) → sectorNumber (entriesOf va vb) ≤ 6
 at-most-six va vb = chosen va vb .most
 
-pub zero-vector : (va vb : ℤ) → numberOf (entriesOf va vb) ≡ 0 → (va ≡ pos 0) × (vb ≡ pos 0)
+pub zero-vector : (va vb : ℤ) → sectorNumber (entriesOf va vb) ≡ 0 → (va ≡ pos 0) × (vb ≡ pos 0)
 unfolding entriesOf
 zero-vector va vb e =
     let h = chosen va vb .none e in

@@ -13,9 +13,9 @@ use Rattle.fixed.proofs.Parts.{order, parts-+}
 use Rattle.fixed.proofs.Size.{abs-+, abs--, abs-*, abs-*≤, abs-neg, abs←, abs-hi}
 use Rattle.fixed.proofs.DownLaws.{down-size}
 use Rattle.modulation.specs.declared.Entries.{Entries}
-use Rattle.modulation.specs.declared.Row.{Row}
+use Rattle.modulation.specs.declared.Sector.{Sector}
 use Rattle.modulation.specs.declared.Times.{Times}
-use Rattle.modulation.specs.Modulation.{A, B, entriesOf, bit, sectors, a·b·c, rowAt, timeOf, longest, entryEnd, Small, Room}
+use Rattle.modulation.specs.Modulation.{A, B, entriesOf, bit, sectors, a·b·c, sectorAt, timeOf, longest, entryEnd, Small, Room}
 
 pub entries-small : (va vb : ℤ) → natAbs va ≤ 8192 → natAbs vb ≤ 8192 → Small (entriesOf va vb)
 unfolding entriesOf
@@ -31,23 +31,23 @@ bit-le v w = by (ltZ (pos 0) v)
     by false = omega arith
 
 -- ════ a row: what holds of each row of a list, and of the row past it, holds of the row at any number
-Each : (Row → Type 0) → List Row → Type 0
+Each : (Sector → Type 0) → List Sector → Type 0
 Each Q [] = Unit
 Each Q (r ∷ rs) = Q r × Each Q rs
 
-each-at : (Q : Row → Type 0) (rs : List Row) (d : Row) → Each Q rs → Q d → (n : ℕ) → Q (getD rs n d)
+each-at : (Q : Sector → Type 0) (rs : List Sector) (d : Sector) → Each Q rs → Q d → (n : ℕ) → Q (getD rs n d)
 unfolding Each
 each-at Q [] d h k n = k
 each-at Q (r ∷ rs) d h k zero = h .0
 each-at Q (r ∷ rs) d h k (suc n) = each-at Q rs d (h .1) k n
 
-pub record Sized (r : Row) : Type 0 where
+pub record Sized (r : Sector) : Type 0 where
   pub one : natAbs (r .t1) ≤ entryEnd
   pub two : natAbs (r .t2) ≤ entryEnd
 
-pub row-sized : (n : ℕ) (e : Entries) → Small e → Sized (rowAt n e)
-unfolding rowAt Each
-row-sized n e h = each-at Sized (sectors (e .x) (e .y) (e .z)) (a·b·c (pos 0) (pos 0)) (omega (arith, abs-neg (e .x), abs-neg (e .y), abs-neg (e .z))) (omega arith) n
+pub sector-sized : (n : ℕ) (e : Entries) → Small e → Sized (sectorAt n e)
+unfolding sectorAt Each
+sector-sized n e h = each-at Sized (sectors (e .x) (e .y) (e .z)) (a·b·c (pos 0) (pos 0)) (omega (arith, abs-neg (e .x), abs-neg (e .y), abs-neg (e .z))) (omega arith) n
 
 -- ════ the times
 pub time-size : (t e : ℤ) → natAbs t ≤ longest → natAbs e ≤ entryEnd → natAbs (timeOf t e) ≤ 100000

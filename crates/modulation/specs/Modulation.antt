@@ -7,7 +7,7 @@ use lib.ListN.{getD}
 use lib.Signed.{_≤ℤ_, ltZ}
 use Rattle.fixed.specs.Fixed.{down}
 use Rattle.modulation.specs.declared.Entries.{Entries}
-use Rattle.modulation.specs.declared.Row.{Row}
+use Rattle.modulation.specs.declared.Sector.{Sector}
 use Rattle.modulation.specs.declared.Times.{Times}
 use Rattle.modulation.specs.declared.Pulses.{Pulses}
 
@@ -35,34 +35,34 @@ unfoldable pub bit : ℤ → ℕ → ℕ
 bit v w = cond (ltZ (pos 0) v) w 0
 
 -- N = (1 if X > 0) + (2 if −Z > 0) + (4 if −Y > 0)
-unfoldable pub numberOf : Entries → ℕ
-numberOf e = bit (e .x) 1 + bit (negℤ (e .z)) 2 + bit (negℤ (e .y)) 4
+unfoldable pub sectorNumber : Entries → ℕ
+sectorNumber e = bit (e .x) 1 + bit (negℤ (e .z)) 2 + bit (negℤ (e .y)) 4
 
 -- a row of the table: the entries for t1 and t2, and at which place, 0 being the first, the phases a, b and c go on
-abbrev pub row : ℤ → ℤ → ℕ → ℕ → ℕ → Row
-row t1 t2 a b c = record { t1 = t1; t2 = t2; a = a; b = b; c = c }
+abbrev pub sector : ℤ → ℤ → ℕ → ℕ → ℕ → Sector
+sector t1 t2 a b c = record { t1 = t1; t2 = t2; a = a; b = b; c = c }
 
 -- the order in which the phases go on, as 01's last column has it
-abbrev pub a·b·c : ℤ → ℤ → Row
-a·b·c t1 t2 = row t1 t2 0 1 2
+abbrev pub a·b·c : ℤ → ℤ → Sector
+a·b·c t1 t2 = sector t1 t2 0 1 2
 
-abbrev pub b·a·c : ℤ → ℤ → Row
-b·a·c t1 t2 = row t1 t2 1 0 2
+abbrev pub b·a·c : ℤ → ℤ → Sector
+b·a·c t1 t2 = sector t1 t2 1 0 2
 
-abbrev pub a·c·b : ℤ → ℤ → Row
-a·c·b t1 t2 = row t1 t2 0 2 1
+abbrev pub a·c·b : ℤ → ℤ → Sector
+a·c·b t1 t2 = sector t1 t2 0 2 1
 
-abbrev pub c·b·a : ℤ → ℤ → Row
-c·b·a t1 t2 = row t1 t2 2 1 0
+abbrev pub c·b·a : ℤ → ℤ → Sector
+c·b·a t1 t2 = sector t1 t2 2 1 0
 
-abbrev pub b·c·a : ℤ → ℤ → Row
-b·c·a t1 t2 = row t1 t2 2 0 1
+abbrev pub b·c·a : ℤ → ℤ → Sector
+b·c·a t1 t2 = sector t1 t2 2 0 1
 
-abbrev pub c·a·b : ℤ → ℤ → Row
-c·a·b t1 t2 = row t1 t2 1 2 0
+abbrev pub c·a·b : ℤ → ℤ → Sector
+c·a·b t1 t2 = sector t1 t2 1 2 0
 
 -- the table, rows 0 to 6
-abbrev pub sectors : ℤ → ℤ → ℤ → List Row
+abbrev pub sectors : ℤ → ℤ → ℤ → List Sector
 sectors x y z =
     a·b·c (pos 0) (pos 0)
     ∷ b·a·c z y
@@ -74,11 +74,11 @@ sectors x y z =
     ∷ []
 
 -- row n; past the table, row 0 (no voltage leads there)
-unfoldable pub rowAt : ℕ → Entries → Row
-rowAt n e = getD (sectors (e .x) (e .y) (e .z)) n (a·b·c (pos 0) (pos 0))
+unfoldable pub sectorAt : ℕ → Entries → Sector
+sectorAt n e = getD (sectors (e .x) (e .y) (e .z)) n (a·b·c (pos 0) (pos 0))
 
-unfoldable pub rowOf : Entries → Row
-rowOf e = rowAt (numberOf e) e
+unfoldable pub sectorOf : Entries → Sector
+sectorOf e = sectorAt (sectorNumber e) e
 
 -- each time is T·(entry)/2^24 down
 unfoldable pub timeOf : ℤ → ℤ → ℤ
@@ -96,7 +96,7 @@ cut t t1 t2 = record { t1 = lesser t1 t; t2 = lesser t2 (t -ℤ lesser t1 t); cl
 unfoldable pub clippedTimes : ℤ → ℤ → ℤ → Times
 clippedTimes t t1 t2 = cond (ltZ t (t1 +ℤ t2)) (cut t t1 t2) (record { t1 = t1; t2 = t2; clipped = false })
 
-unfoldable pub timesOf : ℤ → Row → Times
+unfoldable pub timesOf : ℤ → Sector → Times
 timesOf t r = clippedTimes t (timeOf t (r .t1)) (timeOf t (r .t2))
 
 -- first compare = (T − t1 − t2)/2 down; second = first + t1; third = second + t2
@@ -106,12 +106,12 @@ compareAt (suc zero) t t1 t2 = down (t -ℤ t1 -ℤ t2) (pos 2) +ℤ t1
 compareAt (suc (suc k)) t t1 t2 = down (t -ℤ t1 -ℤ t2) (pos 2) +ℤ t1 +ℤ t2
 
 -- each phase takes the compare of its place
-unfoldable pub placed : ℤ → Row → Times → Pulses
+unfoldable pub placed : ℤ → Sector → Times → Pulses
 placed t r h =
     record { a = compareAt (r .a) t (h .t1) (h .t2); b = compareAt (r .b) t (h .t1) (h .t2); c = compareAt (r .c) t (h .t1) (h .t2); clipped = h .clipped }
 
 unfoldable pub modulated : ℤ → ℤ → ℤ → Pulses
-modulated t va vb = placed t (rowOf (entriesOf va vb)) (timesOf t (rowOf (entriesOf va vb)))
+modulated t va vb = placed t (sectorOf (entriesOf va vb)) (timesOf t (sectorOf (entriesOf va vb)))
 
 -- ════ what is promised of the pulses
 -- a compare z within 0..T, and all three

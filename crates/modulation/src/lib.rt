@@ -5,10 +5,10 @@ ghost use lib.IntN.{natAbs};
 ghost use Rattle.modulation.specs.Modulation.{
   entriesOf,
   bit as bitOf,
-  numberOf,
-  row,
-  rowAt,
-  rowOf,
+  sectorNumber,
+  sector,
+  sectorAt,
+  sectorOf,
   timeOf,
   clippedTimes,
   timesOf,
@@ -38,7 +38,7 @@ pub struct Entries {
 }
 
 // A row of the sector table: the entries for t1 and t2, and the place (0, 1, 2) at which each phase goes on.
-pub struct Row {
+pub struct Sector {
     pub t1: i32,
     pub t2: i32,
     pub a: u8,
@@ -72,17 +72,17 @@ fn bit(v: i32, w: u32) -> u32
     if 0 < v { w } else { 0 }
 }
 
-fn number(e: Entries) -> u32
+fn sector_number(e: Entries) -> u32
     requires { ⌜ Small e ⌝ }
-    ensures { λ r. ⌜ r ≡ numberOf e ⌝ }
+    ensures { λ r. ⌜ r ≡ sectorNumber e ⌝ }
 {
     bit(e.x, 1) + bit(-e.z, 2) + bit(-e.y, 4)
 }
 
-fn sector(t1: i32, t2: i32, a: u8, b: u8, c: u8) -> Row
-    ensures { λ r. ⌜ r ≡ row t1 t2 a b c ⌝ }
+fn sector_with(t1: i32, t2: i32, a: u8, b: u8, c: u8) -> Sector
+    ensures { λ r. ⌜ r ≡ sector t1 t2 a b c ⌝ }
 {
-    Row {
+    Sector {
         t1: t1,
         t2: t2,
         a: a,
@@ -92,18 +92,18 @@ fn sector(t1: i32, t2: i32, a: u8, b: u8, c: u8) -> Row
 }
 
 // The table: which entries are t1 and t2, and at which place the phases a, b and c go on.
-fn row_at(n: u32, e: Entries) -> Row
+fn sector_at(n: u32, e: Entries) -> Sector
     requires { ⌜ Small e ⌝ }
-    ensures { λ r. ⌜ r ≡ rowAt n e ⌝ }
+    ensures { λ r. ⌜ r ≡ sectorAt n e ⌝ }
 {
     match n {
-        1 => sector(e.z, e.y, 1, 0, 2),
-        2 => sector(e.y, -e.x, 0, 2, 1),
-        3 => sector(-e.z, e.x, 0, 1, 2),
-        4 => sector(-e.x, e.z, 2, 1, 0),
-        5 => sector(e.x, -e.y, 2, 0, 1),
-        6 => sector(-e.y, -e.z, 1, 2, 0),
-        _ => sector(0, 0, 0, 1, 2),
+        1 => sector_with(e.z, e.y, 1, 0, 2),
+        2 => sector_with(e.y, -e.x, 0, 2, 1),
+        3 => sector_with(-e.z, e.x, 0, 1, 2),
+        4 => sector_with(-e.x, e.z, 2, 1, 0),
+        5 => sector_with(e.x, -e.y, 2, 0, 1),
+        6 => sector_with(-e.y, -e.z, 1, 2, 0),
+        _ => sector_with(0, 0, 0, 1, 2),
     }
 }
 
@@ -152,7 +152,7 @@ fn compare(k: u8, t: i32, t1: i32, t2: i32) -> i32
     }
 }
 
-fn place(t: i32, r: Row, h: Times) -> Pulses
+fn place(t: i32, r: Sector, h: Times) -> Pulses
     requires { ⌜ Period t × Room t h ⌝ }
     ensures { λ p. ⌜ p ≡ placed t r h ⌝ }
 {
@@ -170,7 +170,7 @@ pub fn modulate(t: i32, va: i32, vb: i32) -> Pulses
     ensures { λ p. ⌜ p ≡ modulated t va vb ⌝ }
 {
     let e = entries_of(va, vb);
-    let r = row_at(number(e), e);
+    let r = sector_at(sector_number(e), e);
     let h = clip(t, time(t, r.t1), time(t, r.t2));
     place(t, r, h)
 }

@@ -14,23 +14,23 @@ use Rattle.fixed.proofs.HeldLaws.{within-lo, within-hi}
 use Rattle.fixed.proofs.LadderLaws.{Climbs, exactly, every, holds, all-pass}
 use Rattle.settings.specs.declared.Settings.{Settings}
 use Rattle.settings.specs.declared.Checked.the-variants.{Accepted}
-use Rattle.settings.specs.Settings.{refusals, accepted, checked, numberOf as checkedNumber}
+use Rattle.settings.specs.Settings.{refusals, accepted, checked, checkedNumber}
 use Rattle.settings.proofs.Ranges.{checked-is}
-use Rattle.record.specs.declared.Drive.{Drive}
-use Rattle.record.specs.Record.{broken}
+use Rattle.drive_record.specs.declared.Drive.{Drive}
+use Rattle.drive_record.specs.Record.{broken}
 use Rattle.stages.specs.declared.Stepped.{Stepped}
-use Rattle.stages.specs.Step.{driven, pulsed, outcome, advanced}
+use Rattle.stages.specs.Step.{rules3To9, rules6To9, outcome, advanced}
 use Rattle.drive.specs.declared.Made.the-variants.{Ready}
-use Rattle.drive.specs.Calls.{fresh, makeTable, made, numberOf, tripped, refused, stepTable, stepped, with, aimed, targetTable, targeted, clearTable, cleared}
+use Rattle.drive.specs.Calls.{fresh, makeTable, made, madeNumber, withTrip, refused, stepTable, stepped, answered, withTarget, targetTable, targeted, clearTable, cleared}
 use Rattle.drive.proofs.CallLaws.{made-is}
 use Rattle.rows.specs.declared.Ran.{Ran}
-use Rattle.rows.specs.Rows.{isAccepted, none, afterRow, ranOf, rowsIn, rowsFit, runTable, runOf, outOf}
+use Rattle.rows.specs.Rows.{isAccepted, noRows, afterRow, ranOf, rowsIn, rowsFit, runTable, runOf, outputAfter}
 use Rattle.promises.specs.Demand1.{CheckTable, MakeTable, DriveOrNumber, ZeroIfAccepted, StepTable, TargetTable, ClearTable, Run, unrun, allRun, RunTable, spare, KeptFree}
 
 -- ════ a run's two answers are one
-ran-is : (d : Drive) (samples out : List ℤ) → _≡_ {A = Run} (runOf d samples out, outOf d samples out) (answerOf (runTable d samples out (unrun d out)) (allRun d samples out))
-unfolding runOf outOf
-ran-is d samples out = by (broken d) (rowsFit (length samples) (length out)) (none d (pos 14)) (none d (pos 9)) (allRun d samples out .0) out (allRun d samples out .1)
+ran-is : (d : Drive) (samples out : List ℤ) → _≡_ {A = Run} (runOf d samples out, outputAfter d samples out) (answerOf (runTable d samples out (unrun d out)) (allRun d samples out))
+unfolding runOf outputAfter
+ran-is d samples out = by (broken d) (rowsFit (length samples) (length out)) (noRows d (pos 14)) (noRows d (pos 9)) (allRun d samples out .0) out (allRun d samples out .1)
   where
     by : (b f : Bool) (x y z : Ran) (o w : List ℤ) → _≡_ {A = Run} (cond b x (cond f z y), cond b o (cond f w o)) (cond b (x, o) (cond f (z, w) (y, o)))
     by true f x y z o w = refl
@@ -39,7 +39,7 @@ ran-is d samples out = by (broken d) (rowsFit (length samples) (length out)) (no
 
 -- the run's own number is 0, whatever its rows' numbers are
 own : (d : Drive) (samples : List ℤ) (n : ℕ) → ranOf d samples n .number ≡ pos 0
-unfolding ranOf none afterRow
+unfolding ranOf noRows afterRow
 own d samples zero = refl
 own d samples (suc n) = own d samples n
 
@@ -48,24 +48,24 @@ check-climbs : (s : Settings) → Climbs checkedNumber (refusals s) (Accepted s)
 unfolding checked
 check-climbs s = record { is = refl; numbered = (refl, (refl, (refl, (refl, (refl, refl))))); apart = refl }
 
-make-climbs : (s : Settings) → Climbs numberOf (makeTable s) (Ready (fresh s)) (made s)
+make-climbs : (s : Settings) → Climbs madeNumber (makeTable s) (Ready (fresh s)) (made s)
 unfolding made
 make-climbs s = record { is = refl; numbered = (refl, (refl, (refl, (refl, (refl, refl))))); apart = refl }
 
 pub step-climbs : (d : Drive) (ia ib count : ℤ) → Climbs (λ a. a .number) (stepTable d ia ib count) (advanced d ia ib count) (stepped d ia ib count)
-unfolding stepped refused advanced driven pulsed outcome
+unfolding stepped refused advanced rules3To9 rules6To9 outcome
 step-climbs d ia ib count = record { is = refl; numbered = (refl, (refl, (refl, refl))); apart = refl }
 
-pub target-climbs : (d : Drive) (wanted : ℤ) → Climbs (λ a. a .number) (targetTable d wanted) (with (aimed d wanted) (pos 0)) (targeted d wanted)
+pub target-climbs : (d : Drive) (wanted : ℤ) → Climbs (λ a. a .number) (targetTable d wanted) (answered (withTarget d wanted) (pos 0)) (targeted d wanted)
 unfolding targeted
 target-climbs d wanted = record { is = refl; numbered = (refl, (refl, (refl, refl))); apart = refl }
 
-pub clear-climbs : (d : Drive) → Climbs (λ a. a .number) (clearTable d) (with (fresh (d .settings)) (pos 0)) (cleared d)
+pub clear-climbs : (d : Drive) → Climbs (λ a. a .number) (clearTable d) (answered (fresh (d .settings)) (pos 0)) (cleared d)
 unfolding cleared
 clear-climbs d = record { is = refl; numbered = (refl, (refl, refl)); apart = refl }
 
-pub run-climbs : (d : Drive) (samples out : List ℤ) → Climbs (λ (r : Run). r .0 .number) (runTable d samples out (unrun d out)) (allRun d samples out) (runOf d samples out, outOf d samples out)
-unfolding none
+pub run-climbs : (d : Drive) (samples out : List ℤ) → Climbs (λ (r : Run). r .0 .number) (runTable d samples out (unrun d out)) (allRun d samples out) (runOf d samples out, outputAfter d samples out)
+unfolding noRows
 run-climbs d samples out = record { is = ran-is d samples out; numbered = (refl, (refl, own d samples (rowsIn samples))); apart = refl }
 
 -- ════ the tables
@@ -110,11 +110,11 @@ module _ (d : Drive) (ia ib count : ℤ) where
 
   pub by-outcome : (Q : Stepped → Type 0) → (broken d ≡ true → Q (refused d (pos 0) (pos 14)))
       → ((n : ℤ) → within (pos 0) (pos 0) n ≡ false → d .tripped ≡ true → Q (refused d (d .settings .t) n))
-      → ((n : ℤ) → within (pos 0) (pos 0) n ≡ false → Q (refused (tripped d) (d .settings .t) n))
+      → ((n : ℤ) → within (pos 0) (pos 0) n ≡ false → Q (refused (withTrip d) (d .settings .t) n))
       → (stepped d ia ib count .number ≡ pos 0 → Q (advanced d ia ib count)) → Q (stepped d ia ib count)
-  by-outcome Q spoilt same marked taken =
+  by-outcome Q spoilt same marked by-rules =
       holds (step-climbs d ia ib count) Q
-      (λ b. spoilt b, λ b. (λ t. same (pos 7) refl t, λ t. (λ s. marked (pos 6) refl, λ s. taken (step-table d ia ib count .given (length (stepTable d ia ib count)) .1 (b, (t, (s, tt)))))))
+      (λ b. spoilt b, λ b. (λ t. same (pos 7) refl t, λ t. (λ s. marked (pos 6) refl, λ s. by-rules (step-table d ia ib count .given (length (stepTable d ia ib count)) .1 (b, (t, (s, tt)))))))
 
 -- ════ 11 to 13 are kept free
 pub kept-free : KeptFree

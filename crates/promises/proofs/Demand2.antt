@@ -7,11 +7,11 @@ use native.Mathlib.Omega.{arith}
 use borrow.Author.Tests.{le-leb}
 use lib.IntN.{ℤ}
 use lib.ListN.{length}
-use Rattle.record.specs.declared.Drive.{Drive}
-use Rattle.record.proofs.Ranges.{not-broken}
+use Rattle.drive_record.specs.declared.Drive.{Drive}
+use Rattle.drive_record.proofs.Ranges.{not-broken}
 use Rattle.drive.specs.Calls.{stepTable, fresh}
-use Rattle.rows.specs.Rows.{isAccepted, isClipped, one, none, afterRow, ranOf, writtenOf, rowsIn, rowsFit}
-use Rattle.promises.specs.Histories.{afterAll, rowAt, countOf}
+use Rattle.rows.specs.Rows.{isAccepted, isClipped, one, noRows, afterRow, ranOf, writtenOf, rowsIn, rowsFit}
+use Rattle.promises.specs.Histories.{afterCalls, rowAt, countOf}
 use Rattle.promises.specs.Demand2.{StepByTheRules, RunByRows, RunAccepted, RunOfNone, StaysUnbroken, NeverBroken, SettingsStay, SettingsAsAccepted}
 use Rattle.promises.proofs.Demand1.{step-table, passed, run-table}
 use Rattle.promises.proofs.Keeping.{all-sound, reached-sound, calls-settings}
@@ -22,16 +22,16 @@ step-by-the-rules d ia ib count e = step-table d ia ib count .then (length (step
 
 -- ════ an accepted run
 pub run-by-rows : RunByRows
-unfolding ranOf none afterRow rowAt writtenOf
+unfolding ranOf noRows afterRow rowAt writtenOf
 run-by-rows d samples = record { starts = refl; goes-on = λ i. refl; writes-none = refl; writes = λ i. refl }
 
 accepted-count : (d : Drive) (samples : List ℤ) (n : ℕ) → ranOf d samples n .accepted ≡ countOf (λ i. isAccepted (rowAt d samples i)) n
-unfolding ranOf none afterRow rowAt countOf
+unfolding ranOf noRows afterRow rowAt countOf
 accepted-count d samples zero = refl
 accepted-count d samples (suc n) = ap (λ (k : ℕ). k + one (isAccepted (rowAt d samples n))) (accepted-count d samples n)
 
 clipped-count : (d : Drive) (samples : List ℤ) (n : ℕ) → ranOf d samples n .clipped ≡ countOf (λ i. isClipped (rowAt d samples i)) n
-unfolding ranOf none afterRow rowAt countOf
+unfolding ranOf noRows afterRow rowAt countOf
 clipped-count d samples zero = refl
 clipped-count d samples (suc n) = ap (λ (k : ℕ). k + one (isClipped (rowAt d samples n))) (clipped-count d samples n)
 
@@ -51,7 +51,7 @@ run-of-none d out b = let r = run-table d [] out .then 2 (b, (le-leb 0 (length o
 
 -- ════ any history
 pub stays-unbroken : StaysUnbroken
-stays-unbroken d cs b = not-broken (afterAll d cs) .1 (all-sound d cs (not-broken d .0 b))
+stays-unbroken d cs b = not-broken (afterCalls d cs) .1 (all-sound d cs (not-broken d .0 b))
 
 pub never-broken : NeverBroken
 never-broken d r = not-broken d .1 (reached-sound d r)

@@ -19,10 +19,10 @@ use Rattle.shaft.specs.Shaft.{thirtieth, counted, measured}
 use Rattle.modulation.specs.declared.Pulses.{Pulses}
 use Rattle.modulation.specs.Modulation.{modulated, InPeriod, AllInPeriod, AsAsked}
 use Rattle.modulation.proofs.Compares.{compares-within, on-times}
-use Rattle.record.specs.declared.Drive.{Drive}
+use Rattle.drive_record.specs.declared.Drive.{Drive}
 use Rattle.fixed.proofs.Ranges.{Inside}
-use Rattle.record.proofs.Ranges.{Sound, not-broken}
-use Rattle.stages.specs.Step.{speedGains, currentGains, speedRegulated, currentRegulated, withTorque, withSpeed, withShaft, withCommand, commanded, turned, dRegulated, qRegulated, voltageOf, voltageFor, withField, outcome, pulsed, driven, advanced}
+use Rattle.drive_record.proofs.Ranges.{Sound, not-broken}
+use Rattle.stages.specs.Step.{speedGains, currentGains, speedRegulated, currentRegulated, withTorque, withSpeed, withShaft, withCommand, commanded, rules1And2, dRegulated, qRegulated, voltageOf, voltageFor, withField, outcome, rules6To9, rules3To9, advanced}
 use Rattle.drive.specs.Calls.{refused, stepped}
 use Rattle.stages.proofs.Sizes as size
 use Rattle.stages.proofs.Kept as kept
@@ -41,11 +41,11 @@ unfolding inside
 integrals-within d r = let h = reached-sound d r .integrals in record { speed = h .speed; d-axis = h .d; q-axis = h .q }
 
 -- ════ rules 1 and 2 leave the current integrals as they were
-turned-d : (d : Drive) (count : ℤ) → turned d count .integrals .d ≡ d .integrals .d
+turned-d : (d : Drive) (count : ℤ) → rules1And2 d count .integrals .d ≡ d .integrals .d
 unfolding commanded withCommand withSpeed withShaft
 turned-d d count = turned-keeps (λ d. d .integrals .d) d count refl refl
 
-turned-q : (d : Drive) (count : ℤ) → turned d count .integrals .q ≡ d .integrals .q
+turned-q : (d : Drive) (count : ℤ) → rules1And2 d count .integrals .q ≡ d .integrals .q
 unfolding commanded withCommand withSpeed withShaft
 turned-q d count = turned-keeps (λ d. d .integrals .q) d count refl refl
 
@@ -59,7 +59,7 @@ module _ (d : Drive) (ia ib count : ℤ) (ok : stepped d ia ib count .number ≡
   new = next d ia ib count
 
   abbrev mid : Drive
-  mid = turned d count
+  mid = rules1And2 d count
 
   met : Sound d
   met = not-broken d .0 (passed d ia ib count ok .0)
@@ -68,14 +68,14 @@ module _ (d : Drive) (ia ib count : ℤ) (ok : stepped d ia ib count .number ≡
   rules = step-by-the-rules d ia ib count ok
 
   mid-sound : Sound mid
-  mid-sound = kept.turned-sound d count met (size.samples→ ia ib count (passed d ia ib count ok .1 .1 .0) .3)
+  mid-sound = kept.rules-1-and-2-sound d count met (size.samples→ ia ib count (passed d ia ib count ok .1 .1 .0) .3)
 
   new-d : new .integrals .d ≡ dRegulated mid (seen d ia ib) .x
-  unfolding next advanced driven pulsed outcome withField voltageFor voltageOf seen
+  unfolding next advanced rules3To9 rules6To9 outcome withField voltageFor voltageOf seen
   new-d = ap (λ s. s .drive .integrals .d) rules
 
   new-q : new .integrals .q ≡ qRegulated mid (seen d ia ib) .x
-  unfolding next advanced driven pulsed outcome withField voltageFor voltageOf seen
+  unfolding next advanced rules3To9 rules6To9 outcome withField voltageFor voltageOf seen
   new-q = ap (λ s. s .drive .integrals .q) rules
 
   -- a current regulator, from the integral x and the error e
@@ -111,19 +111,19 @@ module _ (d : Drive) (ia ib count : ℤ) (ok : stepped d ia ib count .number ≡
 
   -- rules 3 to 9 leave what rules 1 and 2 gave, and these are a tick or none
   mid-is : (b : Bool) → thirtieth (d .shaft) ≡ b → mid ≡ cond b ticked plain
-  unfolding turned
+  unfolding rules1And2
   mid-is b t = ap (λ b. cond b ticked plain) t
 
   new-command : (b : Bool) → thirtieth (d .shaft) ≡ b → new .command ≡ cond b ticked plain .command
-  unfolding next advanced driven pulsed outcome withField
+  unfolding next advanced rules3To9 rules6To9 outcome withField
   new-command b t = ap (λ s. s .drive .command) rules ∙ ap (λ m. m .command) (mid-is b t)
 
   new-shaft : (b : Bool) → thirtieth (d .shaft) ≡ b → new .shaft ≡ cond b ticked plain .shaft
-  unfolding next advanced driven pulsed outcome withField
+  unfolding next advanced rules3To9 rules6To9 outcome withField
   new-shaft b t = ap (λ s. s .drive .shaft) rules ∙ ap (λ m. m .shaft) (mid-is b t)
 
   new-speed : (b : Bool) → thirtieth (d .shaft) ≡ b → new .integrals .speed ≡ cond b ticked plain .integrals .speed
-  unfolding next advanced driven pulsed outcome withField voltageFor voltageOf
+  unfolding next advanced rules3To9 rules6To9 outcome withField voltageFor voltageOf
   new-speed b t = ap (λ s. s .drive .integrals .speed) rules ∙ ap (λ m. m .integrals .speed) (mid-is b t)
 
   speed : Lawful (speedGains (d .settings))
@@ -169,7 +169,7 @@ module _ (d : Drive) (ia ib count : ℤ) (ok : stepped d ia ib count .number ≡
 
   -- the voltage issued, in the stator's frame, is modulated
   voltage-is : volts ≡ inversePark (issued d ia ib count) (sineAt (d .field .angle)) (cosineAt (d .field .angle))
-  unfolding advanced driven pulsed outcome issued seen
+  unfolding advanced rules3To9 rules6To9 outcome issued seen
   voltage-is = ap (λ s. s .voltage) rules
 
   issued-size : (natAbs (issued d ia ib count .d) ≤ 4096) × (natAbs (issued d ia ib count .q) ≤ 4096)
@@ -177,7 +177,7 @@ module _ (d : Drive) (ia ib count : ℤ) (ok : stepped d ia ib count .number ≡
   issued-size = kept.asked-size mid (seen d ia ib) mid-sound
 
   pulses-are : pulses ≡ modulated (d .settings .t) (volts .alpha) (volts .beta)
-  unfolding advanced driven pulsed outcome withField
+  unfolding advanced rules3To9 rules6To9 outcome withField
   pulses-are =
       ap (λ s. s .pulses) rules
       ∙ ap₃ modulated (ap (λ s. s .t) (turned-settings d count)) (ap (λ s. s .voltage .alpha) (sym rules)) (ap (λ s. s .voltage .beta) (sym rules))

@@ -9,15 +9,15 @@ use lib.IntN.{ℤ, pos}
 use lib.ListN.{length}
 use Rattle.fixed.proofs.Equal.{ap₃}
 use Rattle.shaft.specs.Shaft.{counted, thirtieth, measured, rampedTo, ramped}
-use Rattle.record.specs.declared.Drive.{Drive}
+use Rattle.drive_record.specs.declared.Drive.{Drive}
 use Rattle.fixed.specs.Fixed.{inside}
-use Rattle.record.specs.Record.{broken, targetEnd}
-use Rattle.record.proofs.Ranges.{Sound, not-broken}
-use Rattle.stages.specs.Step.{rampedBy, withTorque, withShaft, withCommand, commanded, turned, withField, outcome, pulsed, driven, advanced}
-use Rattle.drive.specs.Calls.{tripped, refused, stepped, aimedAt, aimed, targeted}
-use Rattle.rows.specs.Rows.{rowStepped, isAccepted, one, none, afterRow, ranOf, rowsIn, rowsFit, runOf}
+use Rattle.drive_record.specs.Record.{broken, targetEnd}
+use Rattle.drive_record.proofs.Ranges.{Sound, not-broken}
+use Rattle.stages.specs.Step.{rampedBy, withTorque, withShaft, withCommand, commanded, rules1And2, withField, outcome, rules6To9, rules3To9, advanced}
+use Rattle.drive.specs.Calls.{withTrip, refused, stepped, retargeted, withTarget, targeted}
+use Rattle.rows.specs.Rows.{rowStepped, isAccepted, one, noRows, afterRow, ranOf, rowsIn, rowsFit, runOf}
 use Rattle.rows.proofs.Runs.{rows-sound}
-use Rattle.promises.specs.Histories.{Call, stepping, aiming, clearing, running, after, afterAll, rowAt, countOf, isTick, Quiet, ticksIn, ticksOf}
+use Rattle.promises.specs.Histories.{Call, stepping, aiming, clearing, running, afterCall, afterCalls, rowAt, countOf, isTick, Quiet, ticksIn, ticksOf}
 use Rattle.promises.proofs.Demand1.{passed, by-outcome, target-table, clear-table, run-table}
 use Rattle.promises.proofs.Keeping.{after-sound}
 
@@ -56,28 +56,28 @@ module _ (d : Drive) (ia ib count : ℤ) where
 
   module _ (h : Sound d) where
     -- rules 1 and 2 move the reference; the rules after them leave it
-    turned-onward : Onward d (turned d count) (one (thirtieth (d .shaft)))
-    unfolding turned commanded withCommand withTorque rampedBy withShaft ramped
+    turned-onward : Onward d (rules1And2 d count) (one (thirtieth (d .shaft)))
+    unfolding rules1And2 commanded withCommand withTorque rampedBy withShaft ramped
     turned-onward = by (thirtieth (d .shaft))
       where
         by : (b : Bool) → Onward d (cond b ticked plain) (one b)
         by true = record { reference = refl; target = refl; settings = refl }
         by false = record { reference = refl; target = refl; settings = refl }
 
-    turned-on : Onward d (turned d count) (one (thirtieth (d .shaft))) → Onward d (advanced d ia ib count .drive) (one (thirtieth (d .shaft)))
-    unfolding advanced driven pulsed outcome withField
+    turned-on : Onward d (rules1And2 d count) (one (thirtieth (d .shaft))) → Onward d (advanced d ia ib count .drive) (one (thirtieth (d .shaft)))
+    unfolding advanced rules3To9 rules6To9 outcome withField
     turned-on p = record { reference = p .reference; target = p .target; settings = p .settings }
 
     -- a step after which the drive is not tripped was taken
     step-onward : d .tripped ≡ false → stepped d ia ib count .drive .tripped ≡ false → Onward d (stepped d ia ib count .drive) (one (isTick d (stepped d ia ib count)))
-    unfolding refused tripped advanced driven pulsed outcome isAccepted
+    unfolding refused withTrip advanced rules3To9 rules6To9 outcome isAccepted
     step-onward t =
         by-outcome d ia ib count (λ s. s .drive .tripped ≡ false → Onward d (s .drive) (one (isTick d s)))
         (λ b u. absurd (true≢false (sym b ∙ not-broken d .1 h))) (λ n o e u. absurd (true≢false (sym e ∙ t))) (λ n o u. absurd (true≢false u)) (λ ok u. turned-on turned-onward)
 
 -- a tripped drive stays tripped through a step
 stays-tripped : (d : Drive) (ia ib count : ℤ) → Sound d → stepped d ia ib count .drive .tripped ≡ false → d .tripped ≡ false
-unfolding refused tripped
+unfolding refused withTrip
 stays-tripped d ia ib count h =
     by-outcome d ia ib count (λ s. s .drive .tripped ≡ false → d .tripped ≡ false)
     (λ b u. u) (λ n o e u. u) (λ n o u. absurd (true≢false u)) (λ ok u. passed d ia ib count ok .1 .0)
@@ -86,7 +86,7 @@ stays-tripped d ia ib count h =
 module _ (d : Drive) (samples : List ℤ) (h : Sound d) where
   rows-onward : (n : ℕ) → d .tripped ≡ false → ranOf d samples n .drive .tripped ≡ false
       → Onward d (ranOf d samples n .drive) (countOf (λ i. isTick (ranOf d samples i .drive) (rowAt d samples i)) n)
-  unfolding ranOf none afterRow rowAt rowStepped countOf
+  unfolding ranOf noRows afterRow rowAt rowStepped countOf
   rows-onward zero t u = stays d
   rows-onward (suc n) t u =
       let k = rows-sound d samples n h in
@@ -99,18 +99,18 @@ module _ (d : Drive) (h : Sound d) (t : d .tripped ≡ false) where
   intact = not-broken d .1 h
 
   target-onward : (wanted : ℤ) → targeted d wanted .drive .command .target ≡ d .command .target → Onward d (targeted d wanted .drive) 0
-  unfolding aimed aimedAt ramped
+  unfolding withTarget retargeted ramped
   target-onward wanted a = by (inside (pos targetEnd) wanted) refl
     where
       by : (b : Bool) → inside (pos targetEnd) wanted ≡ b → Onward d (targeted d wanted .drive) 0
       by false e = subst (λ s. Onward d (s .drive) 0) (sym (target-table d wanted .then 2 (intact, (t, e)))) (stays d)
       by true e =
           let f = target-table d wanted .then 3 (intact, (t, (e, tt))) in
-          let k : Onward d (aimed d wanted) 0 = record { reference = refl; target = sym (ap (λ s. s .drive .command .target) f) ∙ a; settings = refl } in
+          let k : Onward d (withTarget d wanted) 0 = record { reference = refl; target = sym (ap (λ s. s .drive .command .target) f) ∙ a; settings = refl } in
           subst (λ s. Onward d (s .drive) 0) (sym f) k
 
   run-onward : (samples out : List ℤ) → runOf d samples out .drive .tripped ≡ false → Onward d (runOf d samples out .drive) (ticksIn d (running samples out))
-  unfolding ticksIn none
+  unfolding ticksIn noRows
   run-onward samples out u = by (rowsFit (length samples) (length out)) refl
     where
       ticks : ℕ
@@ -122,14 +122,14 @@ module _ (d : Drive) (h : Sound d) (t : d .tripped ≡ false) where
           let f = run-table d samples out .then 2 (intact, (e, tt)) in
           subst (λ r. Onward d (r .0 .drive) ticks) (sym f) (rows-onward d samples h (rowsIn samples) t (sym (ap (λ r. r .0 .drive .tripped) f) ∙ u))
 
-  call-onward : (c : Call) → after d c .command .target ≡ d .command .target → after d c .tripped ≡ false → Onward d (after d c) (ticksIn d c)
-  unfolding after ticksIn
+  call-onward : (c : Call) → afterCall d c .command .target ≡ d .command .target → afterCall d c .tripped ≡ false → Onward d (afterCall d c) (ticksIn d c)
+  unfolding afterCall ticksIn
   call-onward (stepping ia ib count) a u = step-onward d ia ib count h t u
   call-onward (aiming wanted) a u = target-onward wanted a
   call-onward clearing a u = subst (λ s. Onward d (s .drive) 0) (sym (clear-table d .then 1 (intact, t))) (stays d)
   call-onward (running samples out) a u = run-onward samples out u
 
-pub calls-onward : (d : Drive) (cs : List Call) → Sound d → d .tripped ≡ false → Quiet d cs → Onward d (afterAll d cs) (ticksOf d cs)
-unfolding afterAll Quiet ticksOf
+pub calls-onward : (d : Drive) (cs : List Call) → Sound d → d .tripped ≡ false → Quiet d cs → Onward d (afterCalls d cs) (ticksOf d cs)
+unfolding afterCalls Quiet ticksOf
 calls-onward d [] h t q = stays d
-calls-onward d (c ∷ cs) h t q = goes-on (call-onward d h t c (q .0) (q .1)) (calls-onward (after d c) cs (after-sound d c h) (q .1) (q .2))
+calls-onward d (c ∷ cs) h t q = goes-on (call-onward d h t c (q .0) (q .1)) (calls-onward (afterCall d c) cs (after-sound d c h) (q .1) (q .2))

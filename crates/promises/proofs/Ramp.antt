@@ -11,7 +11,7 @@ use Rattle.shaft.specs.Shaft.{ramped}
 use Rattle.shaft.proofs.Ramp as ramp
 use Rattle.fixed.proofs.Ranges.{In, in-lo}
 use Rattle.settings.specs.Ranges as range
-use Rattle.record.proofs.Ranges.{Sound, not-broken}
+use Rattle.drive_record.proofs.Ranges.{Sound, not-broken}
 use Rattle.promises.specs.Histories.{ticksOf, roundedUp}
 use Rattle.promises.specs.Ramp.{RampOnTime}
 use Rattle.promises.proofs.Onward.{calls-onward}
@@ -32,11 +32,11 @@ natural (negsuc n) i = absurd (in-lo range.r (negsuc n) i .le)
 pub ramp-on-time : RampOnTime
 ramp-on-time d cs b t q =
     let met : Sound d = not-broken d .0 b in
-    let after = calls-onward d cs met t q .reference in
+    let afterCall = calls-onward d cs met t q .reference in
     let gap = natAbs (d .command .target -ℤ d .command .reference) in
     let r = natAbs (d .settings .r) in
     let n = natural (d .settings .r) (met .settings .r) in
-    let e = after ∙ ap (ramped (ticksOf d cs) (d .command .reference) (d .command .target)) (n .0) in
+    let e = afterCall ∙ ap (ramped (ticksOf d cs) (d .command .reference) (d .command .target)) (n .0) in
     let f = ramp.reached (ticksOf d cs) (d .command .reference) (d .command .target) r in
     let g = rounded gap r (ticksOf d cs) (n .1) in
-    record { reference = after; reached = (λ at. g .0 (f .0 (sym e ∙ at)), λ l. e ∙ f .1 (g .1 l)) }
+    record { reference = afterCall; reached = (λ at. g .0 (f .0 (sym e ∙ at)), λ l. e ∙ f .1 (g .1 l)) }

@@ -15,17 +15,17 @@ use Rattle.fixed.proofs.HeldLaws.{within-lo, within-size}
 use Rattle.fixed.proofs.LadderLaws.{holds}
 use Rattle.shaft.specs.Shaft.{counted, thirtieth, measured}
 use Rattle.shaft.proofs.Window as window
-use Rattle.record.specs.declared.Drive.{Drive}
-use Rattle.record.specs.Record.{broken}
-use Rattle.record.proofs.Ranges.{Sound, not-broken}
+use Rattle.drive_record.specs.declared.Drive.{Drive}
+use Rattle.drive_record.specs.Record.{broken}
+use Rattle.drive_record.proofs.Ranges.{Sound, not-broken}
 use Rattle.stages.specs.declared.Stepped.{Stepped}
-use Rattle.stages.specs.Step.{withShaft, withCommand, commanded, turned, withField, outcome, pulsed, driven, advanced}
-use Rattle.drive.specs.Calls.{fresh, tripped, refused, stepped, aimed, cleared}
+use Rattle.stages.specs.Step.{withShaft, withCommand, commanded, rules1And2, withField, outcome, rules6To9, rules3To9, advanced}
+use Rattle.drive.specs.Calls.{fresh, withTrip, refused, stepped, withTarget, cleared}
 use Rattle.drive.proofs.Kept.{fresh-sound}
-use Rattle.rows.specs.Rows.{rowStepped, isAccepted, one, none, afterRow, ranOf, rowsIn, rowsFit, runOf}
+use Rattle.rows.specs.Rows.{rowStepped, isAccepted, one, noRows, afterRow, ranOf, rowsIn, rowsFit, runOf}
 use Rattle.rows.proofs.Runs.{rows-sound}
 use Rattle.promises.specs.Demand1.{Run, allRun}
-use Rattle.promises.specs.Histories.{Call, stepping, aiming, clearing, running, after, afterAll, rowAt, countOf, Quiet, isTick, ticksIn, ticksOf, stepsIn, stepsOf, clears, NoClear, since}
+use Rattle.promises.specs.Histories.{Call, stepping, aiming, clearing, running, afterCall, afterCalls, rowAt, countOf, Quiet, isTick, ticksIn, ticksOf, stepsIn, stepsOf, clears, NoClear, since}
 use Rattle.promises.specs.Ramp.{EveryThirtieth, ThirtiethsOfAny, TicksCounted, QuietNoClear}
 use Rattle.promises.proofs.Demand1.{by-outcome, target-climbs, clear-climbs, clear-table, run-climbs}
 use Rattle.promises.proofs.Demand2.{stays-unbroken}
@@ -46,8 +46,8 @@ module _ (d : Drive) (ia ib count : ℤ) (h : Sound d) where
   abbrev plain : Drive
   plain = withShaft d (counted (d .shaft) count)
 
-  turned-window : Window d (turned d count) (one (thirtieth (d .shaft))) 1
-  unfolding turned commanded withCommand measured withShaft
+  turned-window : Window d (rules1And2 d count) (one (thirtieth (d .shaft))) 1
+  unfolding rules1And2 commanded withCommand measured withShaft
   turned-window = by (thirtieth (d .shaft)) refl
     where
       k : natAbs (counted (d .shaft) count .steps) ≡ suc (natAbs (d .shaft .steps))
@@ -58,7 +58,7 @@ module _ (d : Drive) (ia ib count : ℤ) (h : Sound d) where
       by false t = omega (arith, k)
 
   step-window : Window d (stepped d ia ib count .drive) (one (isTick d (stepped d ia ib count))) (one (isAccepted (stepped d ia ib count)))
-  unfolding refused tripped advanced driven pulsed outcome withField isAccepted
+  unfolding refused withTrip advanced rules3To9 rules6To9 outcome withField isAccepted
   step-window =
       let still : Window d d 0 0 = omega arith in
       by-outcome d ia ib count (λ s. Window d (s .drive) (one (isTick d s)) (one (isAccepted s))) (λ b. still) (λ n o t. rw o still) (λ n o. rw o still) (λ ok. turned-window)
@@ -70,7 +70,7 @@ row-window d samples i h = step-window d _ _ _ h
 
 rows-window : (d : Drive) (samples : List ℤ) (n : ℕ) → Sound d
     → Window d (ranOf d samples n .drive) (countOf (λ i. isTick (ranOf d samples i .drive) (rowAt d samples i)) n) (ranOf d samples n .accepted)
-unfolding ranOf none afterRow rowAt countOf
+unfolding ranOf noRows afterRow rowAt countOf
 rows-window d samples zero h = omega arith
 rows-window d samples (suc n) h = omega (arith, rows-window d samples n h, row-window (ranOf d samples n .drive) samples n (rows-sound d samples n h))
 
@@ -83,13 +83,13 @@ module _ (d : Drive) (h : Sound d) where
   intact e = absurd (true≢false (sym e ∙ not-broken d .1 h))
 
   run-window : (samples out : List ℤ) → Window d (runOf d samples out .drive) (ticksIn d (running samples out)) (runOf d samples out .accepted)
-  unfolding ticksIn none
+  unfolding ticksIn noRows
   run-window samples out =
       let ticks : ℕ = countOf (λ i. isTick (ranOf d samples i .drive) (rowAt d samples i)) (rowsIn samples) in
       let Q : Bool → Run → Type 0 = λ f r. Window d (r .0 .drive) (cond f ticks 0) (r .0 .accepted) in
       let fit = rowsFit (length samples) (length out) in
       holds (run-climbs d samples out) (Q fit)
-      (λ b. intact b, λ b. (λ f. subst (λ f. Q f (none d (pos 9), out)) (sym f) still, λ f. subst (λ f. Q f (allRun d samples out)) (sym f) (rows-window d samples (rowsIn samples) h)))
+      (λ b. intact b, λ b. (λ f. subst (λ f. Q f (noRows d (pos 9), out)) (sym f) still, λ f. subst (λ f. Q f (allRun d samples out)) (sym f) (rows-window d samples (rowsIn samples) h)))
 
   -- a clear that is not accepted leaves the drive
   uncleared : clears d clearing ≡ false → cleared d .drive ≡ d
@@ -101,36 +101,36 @@ module _ (d : Drive) (h : Sound d) where
   unfolding clears fresh
   emptied = holds (clear-climbs d) (λ a. within (pos 0) (pos 0) (a .number) ≡ true → inWindow (a .drive) ≡ 0) (λ b e. absurd (false≢true e), λ b. (λ t e. absurd (false≢true e), λ t e. refl))
 
-  call-window : (c : Call) → clears d c ≡ false → Window d (after d c) (ticksIn d c) (stepsIn d c)
-  unfolding after ticksIn stepsIn aimed
+  call-window : (c : Call) → clears d c ≡ false → Window d (afterCall d c) (ticksIn d c) (stepsIn d c)
+  unfolding afterCall ticksIn stepsIn withTarget
   call-window (stepping ia ib count) e = step-window d ia ib count h
   call-window (aiming wanted) e = holds (target-climbs d wanted) (λ a. Window d (a .drive) 0 0) (λ b. still, λ b. (λ t. still, λ t. (λ w. still, λ w. still)))
   call-window clearing e = subst (λ e. Window d e 0 0) (sym (uncleared e)) still
   call-window (running samples out) e = run-window samples out
 
-  cleared-window : (c : Call) → clears d c ≡ true → inWindow (after d c) ≡ 0
-  unfolding clears after
+  cleared-window : (c : Call) → clears d c ≡ true → inWindow (afterCall d c) ≡ 0
+  unfolding clears afterCall
   cleared-window (stepping ia ib count) t = absurd (false≢true t)
   cleared-window (aiming wanted) t = absurd (false≢true t)
   cleared-window clearing t = emptied t
   cleared-window (running samples out) t = absurd (false≢true t)
 
 -- ════ any calls
-calls-window : (d : Drive) (cs : List Call) → Sound d → NoClear d cs → Window d (afterAll d cs) (ticksOf d cs) (stepsOf d cs)
-unfolding afterAll NoClear ticksOf stepsOf
+calls-window : (d : Drive) (cs : List Call) → Sound d → NoClear d cs → Window d (afterCalls d cs) (ticksOf d cs) (stepsOf d cs)
+unfolding afterCalls NoClear ticksOf stepsOf
 calls-window d [] h n = omega arith
-calls-window d (c ∷ cs) h n = omega (arith, call-window d h c (n .0), calls-window (after d c) cs (after-sound d c h) (n .1))
+calls-window d (c ∷ cs) h n = omega (arith, call-window d h c (n .0), calls-window (afterCall d c) cs (after-sound d c h) (n .1))
 
 -- counted anew at each accepted clear
 since-window : (d : Drive) (cs : List Call) (ticks steps : ℕ) → Sound d → inWindow d + 30 * ticks ≡ steps
-    → inWindow (afterAll d cs) + 30 * since ticksIn ticks d cs ≡ since stepsIn steps d cs
-unfolding afterAll since
+    → inWindow (afterCalls d cs) + 30 * since ticksIn ticks d cs ≡ since stepsIn steps d cs
+unfolding afterCalls since
 since-window d [] ticks steps h e = e
-since-window d (c ∷ cs) ticks steps h e = by (clears d c) refl (λ m n k. since-window (after d c) cs m n (after-sound d c h) k)
+since-window d (c ∷ cs) ticks steps h e = by (clears d c) refl (λ m n k. since-window (afterCall d c) cs m n (after-sound d c h) k)
   where
     by : (b : Bool) → clears d c ≡ b
-        → ((m n : ℕ) → inWindow (after d c) + 30 * m ≡ n → inWindow (afterAll (after d c) cs) + 30 * since ticksIn m (after d c) cs ≡ since stepsIn n (after d c) cs)
-        → inWindow (afterAll (after d c) cs) + 30 * since ticksIn (cond b 0 (ticks + ticksIn d c)) (after d c) cs ≡ since stepsIn (cond b 0 (steps + stepsIn d c)) (after d c) cs
+        → ((m n : ℕ) → inWindow (afterCall d c) + 30 * m ≡ n → inWindow (afterCalls (afterCall d c) cs) + 30 * since ticksIn m (afterCall d c) cs ≡ since stepsIn n (afterCall d c) cs)
+        → inWindow (afterCalls (afterCall d c) cs) + 30 * since ticksIn (cond b 0 (ticks + ticksIn d c)) (afterCall d c) cs ≡ since stepsIn (cond b 0 (steps + stepsIn d c)) (afterCall d c) cs
     by true t next = next 0 0 (omega (arith, cleared-window d h c t))
     by false t next = next (ticks + ticksIn d c) (steps + stepsIn d c) (omega (arith, e, call-window d h c t))
 
@@ -142,7 +142,7 @@ pub ticks-counted : TicksCounted
 ticks-counted d cs b n =
     let h = not-broken d .0 b in
     let w = calls-window d cs h n in
-    let f = few (afterAll d cs) (all-sound d cs h) in
+    let f = few (afterCalls d cs) (all-sound d cs h) in
     omega (arith, w, f)
 
 -- a step of a drive whose window has a remainder of n by thirty
@@ -159,7 +159,7 @@ module _ (e : Drive) (s : Stepped) (h : Sound e) (a : isAccepted s ≡ true) (n 
 
 pub thirtieths-of-any : ThirtiethsOfAny
 thirtieths-of-any d cs b =
-    let e = afterAll d cs in
+    let e = afterCalls d cs in
     let h : Sound e = all-sound d cs (not-broken d .0 b) in
     let n = since stepsIn (inWindow d) d cs in
     let ticks = since ticksIn 0 d cs in
@@ -178,9 +178,9 @@ unfolding fresh
 every-thirtieth s cs a = thirtieths-of-any (fresh s) cs (not-broken (fresh s) .1 (fresh-sound s a))
 
 pub quiet-no-clear : QuietNoClear
-unfolding Quiet NoClear clears afterAll
+unfolding Quiet NoClear clears afterCalls
 quiet-no-clear d [] b t q = tt
-quiet-no-clear d (c ∷ cs) b t q = (by c, quiet-no-clear (after d c) cs (stays-unbroken d (c ∷ []) b) (q .1) (q .2))
+quiet-no-clear d (c ∷ cs) b t q = (by c, quiet-no-clear (afterCall d c) cs (stays-unbroken d (c ∷ []) b) (q .1) (q .2))
   where
     by : (c : Call) → clears d c ≡ false
     by (stepping ia ib count) = refl

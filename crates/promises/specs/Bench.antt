@@ -2,13 +2,13 @@
 use mathlib.Core.Bool.{true, false}
 use lib.IntN.{ℤ, pos}
 use Rattle.settings.specs.declared.Settings.{Settings}
-use Rattle.record.specs.declared.Drive.{Drive}
-use Rattle.settings.specs.Bench.{benchWith, bench}
+use Rattle.drive_record.specs.declared.Drive.{Drive}
+use Rattle.settings.specs.BenchSettings.{benchWith, benchSettings}
 
 -- before a tick: 29 steps in the window, in which the shaft moved by the sum; the target 100 away
 unfoldable pub waiting : ℤ → Drive
 waiting sum = record {
-  settings = bench;
+  settings = benchSettings;
   shaft = record { count = pos 7; seen = true; sum = sum; steps = pos 29; speed = pos 0 };
   command = record { target = pos 100; reference = pos 0; torque = pos 0; flux = pos 2458 };
   field = record { flux = pos 2458; angle = pos 0 };
@@ -19,7 +19,7 @@ waiting sum = record {
 -- a broken record: its angle is out of range
 unfoldable pub spoiled : Drive
 spoiled = record {
-  settings = bench;
+  settings = benchSettings;
   shaft = waiting (pos 0) .shaft;
   command = waiting (pos 0) .command;
   field = record { flux = pos 0; angle = pos 65536 };

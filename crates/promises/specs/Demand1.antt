@@ -12,31 +12,31 @@ use Rattle.fixed.specs.Fixed.{within}
 use Rattle.fixed.specs.Ladder.{Exactly}
 use Rattle.settings.specs.declared.Settings.{Settings}
 use Rattle.settings.specs.declared.Checked.the-variants.{Accepted}
-use Rattle.settings.specs.Settings.{refusals, refusal, accepted, checked, numberOf as checkedNumber}
+use Rattle.settings.specs.Settings.{refusals, refusal, accepted, checked, checkedNumber}
 use Rattle.settings.specs.Words.{wordsOf, valuesOf}
-use Rattle.record.specs.declared.Drive.{Drive}
+use Rattle.drive_record.specs.declared.Drive.{Drive}
 use Rattle.stages.specs.declared.Stepped.{Stepped}
 use Rattle.stages.specs.Step.{advanced}
 use Rattle.drive.specs.declared.Made.the-variants.{Ready, Refused}
-use Rattle.drive.specs.Calls.{fresh, makeTable, made, numberOf, stepTable, stepped, with, aimed, targetTable, targeted, clearTable, cleared}
+use Rattle.drive.specs.Calls.{fresh, makeTable, made, madeNumber, stepTable, stepped, answered, withTarget, targetTable, targeted, clearTable, cleared}
 use Rattle.rows.specs.declared.Ran.{Ran}
-use Rattle.rows.specs.Rows.{isAccepted, none, ranOf, writtenOf, rowsIn, runTable, runOf, outOf}
+use Rattle.rows.specs.Rows.{isAccepted, noRows, ranOf, writtenOf, rowsIn, runTable, runOf, outputAfter}
 
 -- "Given exactly when" and "Effect", for each call: the settings' check and what they make, a step, a target, a clear
 abbrev pub CheckTable : Type 0
 CheckTable = (s : Settings) → Exactly checkedNumber (refusals s) (Accepted s) (checked s)
 
 abbrev pub MakeTable : Type 0
-MakeTable = (s : Settings) → Exactly numberOf (makeTable s) (Ready (fresh s)) (made s)
+MakeTable = (s : Settings) → Exactly madeNumber (makeTable s) (Ready (fresh s)) (made s)
 
 abbrev pub StepTable : Type 0
 StepTable = (d : Drive) (ia ib count : ℤ) → Exactly (λ a. a .number) (stepTable d ia ib count) (advanced d ia ib count) (stepped d ia ib count)
 
 abbrev pub TargetTable : Type 0
-TargetTable = (d : Drive) (wanted : ℤ) → Exactly (λ a. a .number) (targetTable d wanted) (with (aimed d wanted) (pos 0)) (targeted d wanted)
+TargetTable = (d : Drive) (wanted : ℤ) → Exactly (λ a. a .number) (targetTable d wanted) (answered (withTarget d wanted) (pos 0)) (targeted d wanted)
 
 abbrev pub ClearTable : Type 0
-ClearTable = (d : Drive) → Exactly (λ a. a .number) (clearTable d) (with (fresh (d .settings)) (pos 0)) (cleared d)
+ClearTable = (d : Drive) → Exactly (λ a. a .number) (clearTable d) (answered (fresh (d .settings)) (pos 0)) (cleared d)
 
 -- a run, with the numbers lent to it: "nothing written, state same, both counts 0", or what stands after the rows and what they write, the numbers
 -- past their output as they were
@@ -44,14 +44,14 @@ abbrev pub Run : Type 0
 Run = Ran × List ℤ
 
 abbrev pub unrun : Drive → List ℤ → ℤ → Run
-unrun d out number = (none d number, out)
+unrun d out number = (noRows d number, out)
 
 abbrev pub allRun : Drive → List ℤ → List ℤ → Run
 allRun d samples out = (ranOf d samples (rowsIn samples), writtenOf d samples (rowsIn samples) ++ drop (4 * rowsIn samples) out)
 
 abbrev pub RunTable : Type 0
 RunTable = (d : Drive) (samples out : List ℤ) →
-    Exactly (λ (r : Run). r .0 .number) (runTable d samples out (unrun d out)) (allRun d samples out) (runOf d samples out, outOf d samples out)
+    Exactly (λ (r : Run). r .0 .number) (runTable d samples out (unrun d out)) (allRun d samples out) (runOf d samples out, outputAfter d samples out)
 
 -- "Settings answer either a drive or a number, never both": accepted, the fresh drive, and of the check their own words; else the number that
 -- refuses them, and no words
@@ -66,7 +66,7 @@ DriveOrNumber = (s : Settings) → Either s
 
 -- a number is 0 exactly when settings, or a step, are accepted
 pub record ZeroIfAccepted : Type 0 where
-  pub settings : (s : Settings) → (accepted s ≡ true) ↔ (numberOf (made s) ≡ pos 0)
+  pub settings : (s : Settings) → (accepted s ≡ true) ↔ (madeNumber (made s) ≡ pos 0)
   pub step : (s : Stepped) → (isAccepted s ≡ true) ↔ (s .number ≡ pos 0)
 
 -- "Numbers 11 to 13 are kept free": no call gives them
@@ -77,7 +77,7 @@ abbrev pub Free : ℤ → Type 0
 Free number = spare number ≡ false
 
 pub record KeptFree : Type 0 where
-  pub make-free : (s : Settings) → Free (numberOf (made s))
+  pub make-free : (s : Settings) → Free (madeNumber (made s))
   pub step-free : (d : Drive) (ia ib count : ℤ) → Free (stepped d ia ib count .number)
   pub target-free : (d : Drive) (wanted : ℤ) → Free (targeted d wanted .number)
   pub clear-free : (d : Drive) → Free (cleared d .number)

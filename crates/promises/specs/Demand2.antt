@@ -5,12 +5,12 @@ use mathlib.Core.List.{List, [], _++_}
 use Prim.Native.Nat.{ℕ, suc, _*_}
 use lib.IntN.{ℤ, pos}
 use lib.ListN.{length, drop}
-use Rattle.record.specs.declared.Drive.{Drive}
-use Rattle.record.specs.Record.{broken}
+use Rattle.drive_record.specs.declared.Drive.{Drive}
+use Rattle.drive_record.specs.Record.{broken}
 use Rattle.stages.specs.Step.{advanced}
 use Rattle.drive.specs.Calls.{stepped}
-use Rattle.rows.specs.Rows.{four, isAccepted, isClipped, none, ranOf, writtenOf, rowsIn, rowsFit, runOf, outOf}
-use Rattle.promises.specs.Histories.{Call, afterAll, History, rowAt, countOf}
+use Rattle.rows.specs.Rows.{four, isAccepted, isClipped, noRows, ranOf, writtenOf, rowsIn, rowsFit, runOf, outputAfter}
+use Rattle.promises.specs.Histories.{Call, afterCalls, History, rowAt, countOf}
 
 -- each accepted step gives precisely the state and the compares of "One accepted step, in order"
 abbrev pub StepByTheRules : Type 0
@@ -29,7 +29,7 @@ RunByRows = (d : Drive) (samples : List ℤ) → RowByRow d samples
 -- "and returns the count of accepted steps and of clipped ones among them"; "Numbers past the rows' output stay"
 pub record AfterTheRows (d : Drive) (samples out : List ℤ) : Type 0 where
   pub drive : runOf d samples out .drive ≡ ranOf d samples (rowsIn samples) .drive
-  pub output : outOf d samples out ≡ writtenOf d samples (rowsIn samples) ++ drop (4 * rowsIn samples) out
+  pub output : outputAfter d samples out ≡ writtenOf d samples (rowsIn samples) ++ drop (4 * rowsIn samples) out
   pub accepted : runOf d samples out .accepted ≡ countOf (λ i. isAccepted (rowAt d samples i)) (rowsIn samples)
   pub clipped : runOf d samples out .clipped ≡ countOf (λ i. isClipped (rowAt d samples i)) (rowsIn samples)
 
@@ -38,18 +38,18 @@ RunAccepted = (d : Drive) (samples out : List ℤ) → broken d ≡ false → ro
 
 -- "No rows is accepted", and changes nothing
 abbrev pub RunOfNone : Type 0
-RunOfNone = (d : Drive) (out : List ℤ) → broken d ≡ false → (runOf d [] out ≡ none d (pos 0)) × (outOf d [] out ≡ out)
+RunOfNone = (d : Drive) (out : List ℤ) → broken d ≡ false → (runOf d [] out ≡ noRows d (pos 0)) × (outputAfter d [] out ≡ out)
 
 -- "No accepted call makes one": no list of calls, accepted or refused, breaks a record, and none is ever broken
 abbrev pub StaysUnbroken : Type 0
-StaysUnbroken = (d : Drive) (cs : List Call) → broken d ≡ false → broken (afterAll d cs) ≡ false
+StaysUnbroken = (d : Drive) (cs : List Call) → broken d ≡ false → broken (afterCalls d cs) ≡ false
 
 abbrev pub NeverBroken : Type 0
 NeverBroken = (d : Drive) → History d → broken d ≡ false
 
 -- no list of calls changes the settings, and they are those that were accepted
 abbrev pub SettingsStay : Type 0
-SettingsStay = (d : Drive) (cs : List Call) → afterAll d cs .settings ≡ d .settings
+SettingsStay = (d : Drive) (cs : List Call) → afterCalls d cs .settings ≡ d .settings
 
 abbrev pub SettingsAsAccepted : Type 0
 SettingsAsAccepted = (d : Drive) (r : History d) → d .settings ≡ r .settings

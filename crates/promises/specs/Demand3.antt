@@ -11,7 +11,7 @@ use Rattle.sine.specs.Sine.{sineAt, cosineAt}
 use Rattle.frames.specs.Frames.{inversePark}
 use Rattle.shaft.specs.Shaft.{thirtieth}
 use Rattle.modulation.specs.Modulation.{AllInPeriod, AsAsked}
-use Rattle.record.specs.declared.Drive.{Drive}
+use Rattle.drive_record.specs.declared.Drive.{Drive}
 use Rattle.drive.specs.Calls.{stepped}
 use Rattle.rows.specs.Rows.{ranOf}
 use Rattle.promises.specs.Histories.{History, rowAt}

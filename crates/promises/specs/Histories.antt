@@ -8,7 +8,7 @@ use lib.ListN.{length}
 use Rattle.fixed.specs.Fixed.{within}
 use Rattle.shaft.specs.Shaft.{thirtieth}
 use Rattle.settings.specs.declared.Settings.{Settings}
-use Rattle.record.specs.declared.Drive.{Drive}
+use Rattle.drive_record.specs.declared.Drive.{Drive}
 use Rattle.settings.specs.Settings.{accepted}
 use Rattle.drive.specs.Calls.{fresh, stepped, targeted, cleared}
 use Rattle.stages.specs.declared.Stepped.{Stepped}
@@ -22,22 +22,22 @@ pub data Call : Type 0 where
   running : List ℤ → List ℤ → Call
 
 -- the drive that a call gives back
-unfoldable pub after : Drive → Call → Drive
-after d (stepping ia ib count) = stepped d ia ib count .drive
-after d (aiming wanted) = targeted d wanted .drive
-after d clearing = cleared d .drive
-after d (running samples out) = runOf d samples out .drive
+unfoldable pub afterCall : Drive → Call → Drive
+afterCall d (stepping ia ib count) = stepped d ia ib count .drive
+afterCall d (aiming wanted) = targeted d wanted .drive
+afterCall d clearing = cleared d .drive
+afterCall d (running samples out) = runOf d samples out .drive
 
-unfoldable pub afterAll : Drive → List Call → Drive
-afterAll d [] = d
-afterAll d (c ∷ cs) = afterAll (after d c) cs
+unfoldable pub afterCalls : Drive → List Call → Drive
+afterCalls d [] = d
+afterCalls d (c ∷ cs) = afterCalls (afterCall d c) cs
 
 -- a drive that came from accepted settings by way of calls
 pub record History (d : Drive) : Type 0 where
   pub settings : Settings
   pub are-accepted : accepted settings ≡ true
   pub calls : List Call
-  pub leads : afterAll (fresh settings) calls ≡ d
+  pub leads : afterCalls (fresh settings) calls ≡ d
 
 -- ════ the rows of a run
 -- what the step of row i gives, on the drive that the rows before it leave
@@ -53,7 +53,7 @@ countOf p (suc n) = countOf p n + one (p n)
 -- the target stays and nothing trips, call after call
 unfoldable pub Quiet : Drive → List Call → Type 0
 Quiet d [] = Unit
-Quiet d (c ∷ cs) = (after d c .command .target ≡ d .command .target) × (after d c .tripped ≡ false) × Quiet (after d c) cs
+Quiet d (c ∷ cs) = (afterCall d c .command .target ≡ d .command .target) × (afterCall d c .tripped ≡ false) × Quiet (afterCall d c) cs
 
 -- a step s of drive d is a tick when it is accepted with 29 steps in the window before it
 abbrev pub isTick : Drive → Stepped → Bool
@@ -69,7 +69,7 @@ ticksIn d (running samples out) =
 
 unfoldable pub ticksOf : Drive → List Call → ℕ
 ticksOf d [] = 0
-ticksOf d (c ∷ cs) = ticksIn d c + ticksOf (after d c) cs
+ticksOf d (c ∷ cs) = ticksIn d c + ticksOf (afterCall d c) cs
 
 -- a call's accepted steps
 unfoldable pub stepsIn : Drive → Call → ℕ
@@ -80,7 +80,7 @@ stepsIn d (running samples out) = runOf d samples out .accepted
 
 unfoldable pub stepsOf : Drive → List Call → ℕ
 stepsOf d [] = 0
-stepsOf d (c ∷ cs) = stepsIn d c + stepsOf (after d c) cs
+stepsOf d (c ∷ cs) = stepsIn d c + stepsOf (afterCall d c) cs
 
 -- an accepted clear, after which the drive is fresh
 unfoldable pub clears : Drive → Call → Bool
@@ -91,12 +91,12 @@ clears d (running samples out) = false
 
 unfoldable pub NoClear : Drive → List Call → Type 0
 NoClear d [] = Unit
-NoClear d (c ∷ cs) = (clears d c ≡ false) × NoClear (after d c) cs
+NoClear d (c ∷ cs) = (clears d c ≡ false) × NoClear (afterCall d c) cs
 
 -- a count over calls that starts at n, and anew at each accepted clear
 unfoldable pub since : (Drive → Call → ℕ) → ℕ → Drive → List Call → ℕ
 since count n d [] = n
-since count n d (c ∷ cs) = since count (cond (clears d c) 0 (n + count d c)) (after d c) cs
+since count n d (c ∷ cs) = since count (cond (clears d c) 0 (n + count d c)) (afterCall d c) cs
 
 -- gap/R, rounded up
 abbrev pub roundedUp : ℕ → ℕ → ℕ

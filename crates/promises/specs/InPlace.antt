@@ -12,8 +12,8 @@ use denote.Ref.{now}
 use denote.Triple.Entry.{Args, Res}
 use denote.Triple.Clauses.{Ended, Clauses, AtExit}
 use lib.IntN.{ℤ}
-use Rattle.record.specs.declared.Drive.{Drive}
-use Rattle.drive.specs.Calls.{made, numberOf, stepped, targeted, cleared}
+use Rattle.drive_record.specs.declared.Drive.{Drive}
+use Rattle.drive.specs.Calls.{made, madeNumber, stepped, targeted, cleared}
 use Rattle.interrupt.specs.declared.Output.{Output}
 use Rattle.interrupt.specs.Interrupt.{outputOf, driveOr}
 use Rattle.interrupt.proofs.mirgalhet_start as start
@@ -44,7 +44,7 @@ pub record SettledInPlace {M : Type 1} (𝓤 : URA M) (T : Ended) (c : Clauses �
 module _ {M : Type 1} (𝓤 : URA M) (H : Heap 𝓤) (𝓜 : Model 𝓤 H) (𝓖 : GhostRules 𝓤 H) (𝓡 : Running 𝓤 H 𝓜) where
   abbrev pub StartInPlace : Type 1
   StartInPlace = SettledInPlace 𝓤 start.ended (start.clauses 𝓤 H (𝓖 .A) (𝓜 .mem) (𝓡 .run)) {B = ℤ × Drive} (λ κs u x. (u, now (x .0)))
-      (λ κs a. (numberOf (made (a .1 .0)), driveOr (now (a .0)) (made (a .1 .0))))
+      (λ κs a. (madeNumber (made (a .1 .0)), driveOr (now (a .0)) (made (a .1 .0))))
 
   abbrev pub StepInPlace : Type 1
   StepInPlace = SettledInPlace 𝓤 step.ended (step.clauses 𝓤 H (𝓖 .A) (𝓜 .mem) (𝓡 .run)) {B = Output × Drive} (λ κs u x. (u, now (x .0)))

@@ -7,17 +7,17 @@ use Prim.Native.Nat.{ℕ, suc, _+_, _/_, _%_, _≤_}
 use lib.IntN.{ℤ, natAbs}
 use Rattle.shaft.specs.Shaft.{ramped}
 use Rattle.settings.specs.declared.Settings.{Settings}
-use Rattle.record.specs.declared.Drive.{Drive}
+use Rattle.drive_record.specs.declared.Drive.{Drive}
 use Rattle.settings.specs.Settings.{accepted}
-use Rattle.record.specs.Record.{broken}
+use Rattle.drive_record.specs.Record.{broken}
 use Rattle.drive.specs.Calls.{fresh, stepped}
 use Rattle.rows.specs.Rows.{isAccepted, ranOf}
-use Rattle.promises.specs.Histories.{Call, afterAll, rowAt, Quiet, isTick, ticksIn, stepsIn, ticksOf, stepsOf, NoClear, since, ticksNeeded}
+use Rattle.promises.specs.Histories.{Call, afterCalls, rowAt, Quiet, isTick, ticksIn, stepsIn, ticksOf, stepsOf, NoClear, since, ticksNeeded}
 
 -- ════ "with the target unchanged and no trip, the reference is at the target after gap/R ticks, rounded up, and not sooner"
 pub record OnTime (d : Drive) (cs : List Call) : Type 0 where
-  pub reference : afterAll d cs .command .reference ≡ ramped (ticksOf d cs) (d .command .reference) (d .command .target) (d .settings .r)
-  pub reached : (afterAll d cs .command .reference ≡ d .command .target) ↔ (ticksNeeded d ≤ ticksOf d cs)
+  pub reference : afterCalls d cs .command .reference ≡ ramped (ticksOf d cs) (d .command .reference) (d .command .target) (d .settings .r)
+  pub reached : (afterCalls d cs .command .reference ≡ d .command .target) ↔ (ticksNeeded d ≤ ticksOf d cs)
 
 abbrev pub RampOnTime : Type 0
 RampOnTime = (d : Drive) (cs : List Call) → broken d ≡ false → d .tripped ≡ false → Quiet d cs → OnTime d cs
@@ -32,11 +32,11 @@ pub record Thirtieths (d : Drive) (n ticks : ℕ) : Type 0 where
   pub counted : ticks ≡ n / 30
 
 abbrev pub EveryThirtieth : Type 0
-EveryThirtieth = (s : Settings) (cs : List Call) → accepted s ≡ true → Thirtieths (afterAll (fresh s) cs) (since stepsIn 0 (fresh s) cs) (since ticksIn 0 (fresh s) cs)
+EveryThirtieth = (s : Settings) (cs : List Call) → accepted s ≡ true → Thirtieths (afterCalls (fresh s) cs) (since stepsIn 0 (fresh s) cs) (since ticksIn 0 (fresh s) cs)
 
 -- "A drive record goes by its own words, wherever it comes from": the same from any record that is not broken, its steps in the window counted too
 abbrev pub ThirtiethsOfAny : Type 0
-ThirtiethsOfAny = (d : Drive) (cs : List Call) → broken d ≡ false → Thirtieths (afterAll d cs) (since stepsIn (natAbs (d .shaft .steps)) d cs) (since ticksIn 0 d cs)
+ThirtiethsOfAny = (d : Drive) (cs : List Call) → broken d ≡ false → Thirtieths (afterCalls d cs) (since stepsIn (natAbs (d .shaft .steps)) d cs) (since ticksIn 0 d cs)
 
 -- so, with m steps in the window, n accepted steps with no clear among them have (m + n)/30 ticks
 abbrev pub TicksCounted : Type 0

@@ -21,8 +21,8 @@ use Rattle.drive.proofs.clear.Reads as clear
 use Rattle.drive.proofs.clear.Kinds as clear-kinds
 use Rattle.rows.proofs.run.Reads as run
 use Rattle.rows.proofs.run.Kinds as run-kinds
-use Rattle.drive.specs.Calls.{made, numberOf, stepped, targeted, cleared}
-use Rattle.rows.specs.Rows.{runOf, outOf}
+use Rattle.drive.specs.Calls.{made, madeNumber, stepped, targeted, cleared}
+use Rattle.rows.specs.Rows.{runOf, outputAfter}
 use Rattle.promises.specs.Demand1.{Run}
 
 -- a call with n lifetimes, parameters ps and result r, that asks and ensures so much. Its outcome is read of the result u and of what the parameters
@@ -38,7 +38,7 @@ abbrev pub MakeSettled : Type 0
 MakeSettled = Settled 0 make-kinds.ps make-kinds.r make.Pre make.Post (λ κs u x. u) (λ κs a. made (a .0))
 
 abbrev pub NumberSettled : Type 0
-NumberSettled = Settled 0 number_of-kinds.ps number_of-kinds.r number_of.Pre number_of.Post (λ κs u x. u) (λ κs a. numberOf (a .0))
+NumberSettled = Settled 0 number_of-kinds.ps number_of-kinds.r number_of.Pre number_of.Post (λ κs u x. u) (λ κs a. madeNumber (a .0))
 
 -- a step, of a drive, ia, ib and count
 abbrev pub StepSettled : Type 0
@@ -57,4 +57,4 @@ lent κs x = now (x .1 .1 .0)
 
 abbrev pub RunSettled : Type 0
 RunSettled = Settled 2 run-kinds.ps run-kinds.r run.Pre run.Post {B = Run} (λ κs u x. (u, lent κs x))
-    (λ κs a. (runOf (a .0) (now (a .1 .0)) (now (a .1 .1 .0)), outOf (a .0) (now (a .1 .0)) (now (a .1 .1 .0))))
+    (λ κs a. (runOf (a .0) (now (a .1 .0)) (now (a .1 .1 .0)), outputAfter (a .0) (now (a .1 .0)) (now (a .1 .1 .0))))

@@ -2,8 +2,8 @@
 use lib.IntN.{ℤ, _-ℤ_}
 use Rattle.sine.specs.Sine.{sineAt, cosineAt}
 use Rattle.frames.specs.declared.Rotor.{Rotor}
-use Rattle.record.specs.declared.Drive.{Drive}
-use Rattle.stages.specs.Step.{turned, currents, voltageFor}
+use Rattle.drive_record.specs.declared.Drive.{Drive}
+use Rattle.stages.specs.Step.{rules1And2, currents, voltageFor}
 use Rattle.drive.specs.Calls.{stepped}
 
 -- the currents d and q, seen at the old angle
@@ -12,14 +12,14 @@ seen d ia ib = currents ia ib (sineAt (d .field .angle)) (cosineAt (d .field .an
 
 -- the voltage that the current regulators issue
 unfoldable pub issued : Drive → ℤ → ℤ → ℤ → Rotor
-issued d ia ib count = voltageFor (turned d count) (seen d ia ib) .asked
+issued d ia ib count = voltageFor (rules1And2 d count) (seen d ia ib) .asked
 
 -- flux reference − d, torque reference − q
 unfoldable pub dError : Drive → ℤ → ℤ → ℤ → ℤ
-dError d ia ib count = turned d count .command .flux -ℤ seen d ia ib .d
+dError d ia ib count = rules1And2 d count .command .flux -ℤ seen d ia ib .d
 
 unfoldable pub qError : Drive → ℤ → ℤ → ℤ → ℤ
-qError d ia ib count = turned d count .command .torque -ℤ seen d ia ib .q
+qError d ia ib count = rules1And2 d count .command .torque -ℤ seen d ia ib .q
 
 -- the drive after the step
 unfoldable pub next : Drive → ℤ → ℤ → ℤ → Drive

@@ -1,4 +1,4 @@
 pub mod Fact
 pub mod Cases
-pub mod RegulatedTold
+pub mod RegulatedFromBits
 pub mod Limits

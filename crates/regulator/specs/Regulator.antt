@@ -39,7 +39,7 @@ abbrev pub errorEnd : ℕ
 errorEnd = 32767
 
 -- what the code asks of its numbers, so that nothing overflows
-pub record Sized (x e : ℤ) (g : Gains) (limit : ℤ) : Type 0 where
+pub record RegulatorSized (x e : ℤ) (g : Gains) (limit : ℤ) : Type 0 where
   pub x-size : natAbs x ≤ widest
   pub e-size : natAbs e ≤ errorEnd
   pub kp-size : natAbs (g .kp) ≤ 32767

@@ -1,6 +1,6 @@
 // The regulator: proportional part, output held to its limits, integral corrected by what the limits took off.
 ghost use mathlib.Core.Path.{_≡_};
-ghost use Rattle.regulator.specs.Regulator.{regulated, Sized};
+ghost use Rattle.regulator.specs.Regulator.{regulated, RegulatorSized};
 
 pub struct Gains {
     pub kp: i32,
@@ -16,7 +16,7 @@ pub struct Regulated {
 
 // One step from the integral x and the error e. The term (out − u)·Kcor is what keeps the integral from climbing while the output is held.
 pub fn regulate(x: i32, e: i32, g: Gains, limit: i32) -> Regulated
-    requires { ⌜ Sized x e g limit ⌝ }
+    requires { ⌜ RegulatorSized x e g limit ⌝ }
     ensures { λ r. ⌜ r ≡ regulated x e g limit ⌝ }
 {
     let at = x as i64;

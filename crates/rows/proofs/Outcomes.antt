@@ -10,9 +10,9 @@ use lib.Dec.{eqb, leb}
 use lib.IntN.{ℤ, pos}
 use lib.ListN.{length, drop}
 use Rattle.fixed.proofs.HeldLaws.{and-left, and-right}
-use Rattle.record.specs.declared.Drive.{Drive}
-use Rattle.record.specs.Record.{broken}
-use Rattle.rows.specs.Rows.{none, ranOf, writtenOf, rowsIn, rowsFit, runOf, outOf}
+use Rattle.drive_record.specs.declared.Drive.{Drive}
+use Rattle.drive_record.specs.Record.{broken}
+use Rattle.rows.specs.Rows.{noRows, ranOf, writtenOf, rowsIn, rowsFit, runOf, outputAfter}
 
 -- ════ 9
 -- n rows against the output, counted in fours
@@ -33,14 +33,14 @@ room samples out e = leb-true (4 * (samples / 3)) out (and-right (eqb (samples %
 
 -- ════ the three answers
 module _ (d : Drive) (samples out : List ℤ) where
-  pub run-14 : broken d ≡ true → (runOf d samples out ≡ none d (pos 14)) × (outOf d samples out ≡ out)
-  unfolding runOf outOf
+  pub run-14 : broken d ≡ true → (runOf d samples out ≡ noRows d (pos 14)) × (outputAfter d samples out ≡ out)
+  unfolding runOf outputAfter
   run-14 b = (simp b, simp b)
 
-  pub run-9 : broken d ≡ false → rowsFit (length samples) (length out) ≡ false → (runOf d samples out ≡ none d (pos 9)) × (outOf d samples out ≡ out)
-  unfolding runOf outOf
+  pub run-9 : broken d ≡ false → rowsFit (length samples) (length out) ≡ false → (runOf d samples out ≡ noRows d (pos 9)) × (outputAfter d samples out ≡ out)
+  unfolding runOf outputAfter
   run-9 b f = (simp (b, f), simp (b, f))
 
-  pub run-0 : broken d ≡ false → rowsFit (length samples) (length out) ≡ true → (runOf d samples out ≡ ranOf d samples (rowsIn samples)) × (outOf d samples out ≡ writtenOf d samples (rowsIn samples) ++ drop (4 * rowsIn samples) out)
-  unfolding runOf outOf
+  pub run-0 : broken d ≡ false → rowsFit (length samples) (length out) ≡ true → (runOf d samples out ≡ ranOf d samples (rowsIn samples)) × (outputAfter d samples out ≡ writtenOf d samples (rowsIn samples) ++ drop (4 * rowsIn samples) out)
+  unfolding runOf outputAfter
   run-0 b f = (simp (b, f), simp (b, f))

@@ -10,12 +10,12 @@ use native.Mathlib.Omega.{arith}
 use lib.IntN.{ℤ, pos}
 use lib.ListN.{length, length-append, List·getD-append}
 use lib.Seq.{getD-append-add}
-use Rattle.record.specs.declared.Drive.{Drive}
-use Rattle.record.specs.Record.{broken}
-use Rattle.record.proofs.Ranges.{not-broken}
+use Rattle.drive_record.specs.declared.Drive.{Drive}
+use Rattle.drive_record.specs.Record.{broken}
+use Rattle.drive_record.proofs.Ranges.{not-broken}
 use Rattle.stages.specs.declared.Stepped.{Stepped}
 use Rattle.rows.specs.declared.Ran.{Ran}
-use Rattle.rows.specs.Rows.{rowStepped, four, none, afterRow, ranOf, writtenOf, rowsIn, rowsFit, runOf}
+use Rattle.rows.specs.Rows.{rowStepped, four, noRows, afterRow, ranOf, writtenOf, rowsIn, rowsFit, runOf}
 use Rattle.rows.proofs.Runs.{rows-sound}
 use Rattle.rows.proofs.Outcomes.{threes, run-0}
 
@@ -24,8 +24,8 @@ abbrev pub joined : Ran → Ran → Ran
 joined r q =
     record { drive = q .drive; number = q .number; accepted = r .accepted + q .accepted; clipped = r .clipped + q .clipped }
 
-joined-none : (r : Ran) → r .number ≡ pos 0 → r ≡ joined r (none (r .drive) (pos 0))
-unfolding none
+joined-none : (r : Ran) → r .number ≡ pos 0 → r ≡ joined r (noRows (r .drive) (pos 0))
+unfolding noRows
 joined-none r e = rw (← e) (simp add-zero)
 
 joined-after : (r q : Ran) (s : Stepped) → afterRow (joined r q) s ≡ joined r (afterRow q s)
@@ -36,7 +36,7 @@ joined-after r q s = simp add-assoc
 abbrev more : Ran → List ℤ → ℕ → Ran
 more r samples i = afterRow r (rowStepped (r .drive) samples i)
 
-ran-none : (d : Drive) (samples : List ℤ) → ranOf d samples zero ≡ none d (pos 0)
+ran-none : (d : Drive) (samples : List ℤ) → ranOf d samples zero ≡ noRows d (pos 0)
 unfolding ranOf
 ran-none d samples = refl
 
@@ -45,7 +45,7 @@ unfolding ranOf
 ran-more d samples i = refl
 
 number-0 : (d : Drive) (samples : List ℤ) (n : ℕ) → ranOf d samples n .number ≡ pos 0
-unfolding ranOf none afterRow
+unfolding ranOf noRows afterRow
 number-0 d samples zero = refl
 number-0 d samples (suc n) = number-0 d samples n
 

@@ -8,12 +8,12 @@ use native.Mathlib.Omega.{arith}
 use native.Mathlib.Numerals.{add-one}
 use lib.IntN.{ℤ, pos}
 use lib.ListN.{length, take, drop, length-append}
-use Rattle.record.specs.declared.Drive.{Drive}
-use Rattle.record.proofs.Ranges.{Sound}
+use Rattle.drive_record.specs.declared.Drive.{Drive}
+use Rattle.drive_record.proofs.Ranges.{Sound}
 use Rattle.stages.specs.declared.Stepped.{Stepped}
 use Rattle.drive.proofs.Kept.{stepped-sound}
 use Rattle.rows.specs.declared.Ran.{Ran}
-use Rattle.rows.specs.Rows.{rowStepped, four, isAccepted, isClipped, one, none, afterRow, ranOf, writtenOf}
+use Rattle.rows.specs.Rows.{rowStepped, four, isAccepted, isClipped, one, noRows, afterRow, ranOf, writtenOf}
 use Rattle.rows.proofs.Lists.{next-four}
 
 -- n rows write 4·n numbers
@@ -31,7 +31,7 @@ unfolding rowStepped
 row-sound d samples i h = stepped-sound d _ _ _ h
 
 pub rows-sound : (d : Drive) (samples : List ℤ) (n : ℕ) → Sound d → Sound (ranOf d samples n .drive)
-unfolding ranOf none afterRow
+unfolding ranOf noRows afterRow
 rows-sound d samples zero h = h
 rows-sound d samples (suc n) h = row-sound (ranOf d samples n .drive) samples n (rows-sound d samples n h)
 
@@ -47,7 +47,7 @@ pub record Upto (d : Drive) (samples o : List ℤ) (n : ℕ) (out : List ℤ) (c
   pub small : 4 * n < 2 ^ 63
 
 pub start : (d : Drive) (samples o : List ℤ) (n : ℕ) → Sound d → 4 * n < 2 ^ 63 → Upto d samples o n o d 0 0 0
-unfolding ranOf none writtenOf
+unfolding ranOf noRows writtenOf
 start d samples o n h l = record {
   low = omega arith;
   is-sound = h;

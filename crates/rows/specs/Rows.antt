@@ -7,8 +7,8 @@ use lib.Dec.{leb, eqb}
 use lib.IntN.{ℤ, pos}
 use Rattle.fixed.specs.Fixed.{within}
 use Rattle.fixed.specs.Ladder.{Rung, when, unless, answerOf}
-use Rattle.record.specs.declared.Drive.{Drive}
-use Rattle.record.specs.Record.{broken}
+use Rattle.drive_record.specs.declared.Drive.{Drive}
+use Rattle.drive_record.specs.Record.{broken}
 use Rattle.stages.specs.declared.Stepped.{Stepped}
 use Rattle.drive.specs.Calls.{stepped}
 use Rattle.rows.specs.declared.Ran.{Ran}
@@ -35,8 +35,8 @@ one b = cond b 1 0
 
 -- ════ the rows, one after the other
 -- the run's own number, and no row taken
-unfoldable pub none : Drive → ℤ → Ran
-none d number = record { drive = d; number = number; accepted = 0; clipped = 0 }
+unfoldable pub noRows : Drive → ℤ → Ran
+noRows d number = record { drive = d; number = number; accepted = 0; clipped = 0 }
 
 -- one row more: the drive after its step, and the counts
 unfoldable pub afterRow : Ran → Stepped → Ran
@@ -49,7 +49,7 @@ afterRow r s = record {
 
 -- what stands after the first n rows
 unfoldable pub ranOf : Drive → List ℤ → ℕ → Ran
-ranOf d samples zero = none d (pos 0)
+ranOf d samples zero = noRows d (pos 0)
 ranOf d samples (suc i) = afterRow (ranOf d samples i) (rowStepped (ranOf d samples i .drive) samples i)
 
 -- the numbers that they write
@@ -71,8 +71,8 @@ runTable d samples out refused = when (broken d) 14 refused ∷ unless (rowsFit 
 
 -- refused, state same and both counts 0; else the run's own number is 0
 unfoldable pub runOf : Drive → List ℤ → List ℤ → Ran
-runOf d samples out = answerOf (runTable d samples out (none d)) (ranOf d samples (rowsIn samples))
+runOf d samples out = answerOf (runTable d samples out (noRows d)) (ranOf d samples (rowsIn samples))
 
 -- the output after it: refused, nothing written; else numbers past the rows' output stay
-unfoldable pub outOf : Drive → List ℤ → List ℤ → List ℤ
-outOf d samples out = answerOf (runTable d samples out (λ number. out)) (writtenOf d samples (rowsIn samples) ++ drop (4 * rowsIn samples) out)
+unfoldable pub outputAfter : Drive → List ℤ → List ℤ → List ℤ
+outputAfter d samples out = answerOf (runTable d samples out (λ number. out)) (writtenOf d samples (rowsIn samples) ++ drop (4 * rowsIn samples) out)

@@ -5,21 +5,21 @@ ghost use mathlib.Core.List.{_++_};
 ghost use Prim.Native.Nat.{_+_, _*_, _≤_};
 ghost use lib.ListN.{length, take as takeOf, drop};
 ghost use Rattle.sine.specs.Sine.{sineTable};
-ghost use Rattle.record.specs.Record.{sound as soundOf};
+ghost use Rattle.drive_record.specs.Record.{sound as soundOf};
 ghost use Rattle.rows.specs.Rows.{
   one,
   isAccepted,
   isClipped,
   four,
   rowStepped,
-  none as noneOf,
+  noRows,
   ranOf,
   writtenOf,
   rowsFit,
   runOf,
-  outOf,
+  outputAfter,
 };
-use record::Drive;
+use drive_record::Drive;
 use settings::Checked;
 use stages::Stepped;
 
@@ -39,7 +39,7 @@ fn row_step(d: Drive, samples: &[i32], i: usize, table: &sine::Table) -> Stepped
     let ia = samples[3 * i];
     let ib = samples[3 * i + 1];
     let count = samples[3 * i + 2];
-    drive::take(d, ia, ib, count, table)
+    drive::step_sound(d, ia, ib, count, table)
 }
 
 // The three compares and the number of a step, at a place.
@@ -99,8 +99,8 @@ fn rows_run(d: Drive, samples: &[i32], out: &mut [i32], n: usize, table: &sine::
 }
 
 // No row taken.
-fn none(d: Drive, number: i32) -> Ran
-    ensures { λ r. ⌜ r ≡ noneOf d number ⌝ }
+fn no_rows(d: Drive, number: i32) -> Ran
+    ensures { λ r. ⌜ r ≡ noRows d number ⌝ }
 {
     Ran {
         drive: d,
@@ -120,16 +120,16 @@ fn rows_fit(samples: usize, out: usize) -> bool
 
 // Each row of three samples as one step, which writes four numbers. Nothing is written where the run is refused.
 pub fn run(d: Drive, samples: &[i32], out: &mut [i32]) -> Ran
-    ensures { λ r. ⌜ (r ≡ runOf d (now (samples .entry)) (now (out .entry))) × (now (out .exit) ≡ outOf d (now (samples .entry)) (now (out .entry))) ⌝ }
+    ensures { λ r. ⌜ (r ≡ runOf d (now (samples .entry)) (now (out .entry))) × (now (out .exit) ≡ outputAfter d (now (samples .entry)) (now (out .entry))) ⌝ }
 {
     let Checked::Accepted(_) = settings::check(d.settings) else {
-        return none(d, 14);
+        return no_rows(d, 14);
     };
-    if !record::words_ok(d) {
-        return none(d, 14);
+    if !drive_record::words_ok(d) {
+        return no_rows(d, 14);
     }
     if !rows_fit(samples.len(), out.len()) {
-        return none(d, 9);
+        return no_rows(d, 9);
     }
     let n = samples.len() / 3;
     let table = sine::table();

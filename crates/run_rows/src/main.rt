@@ -9,7 +9,7 @@ ghost use Rattle.io.specs.Counts.{Counts};
 ghost use Rattle.text.specs.Decimal.{written};
 ghost use Rattle.stream.specs.Streaming.{asFed, rowsFed, rowsText};
 ghost use Rattle.sine.specs.Sine.{sineTable};
-ghost use Rattle.record.specs.Record.{sound as soundOf};
+ghost use Rattle.drive_record.specs.Record.{sound as soundOf};
 use pipes::Got;
 use settings::Checked;
 use stream::Stream;
@@ -59,7 +59,7 @@ fn read_through(first: Turned, bytes: &mut [u8], table: &sine::Table, out: &mut 
 
 // Where a read or a write failed words on standard error say so, and no totals are written: nobody takes what stands for the whole.
 fn main() {
-    let Checked::Accepted(s) = settings::check(settings::bench()) else {
+    let Checked::Accepted(s) = settings::check(settings::bench_settings()) else {
         return;
     };
     let d = drive::fresh(s);

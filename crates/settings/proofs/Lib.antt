@@ -1,3 +1,3 @@
-pub mod SettingsTold
+pub mod SettingsFromBits
 pub mod Ranges
 pub mod WordLaws

@@ -1,4 +1,4 @@
 pub mod Ranges
 pub mod Settings
 pub mod Words
-pub mod Bench
+pub mod BenchSettings

@@ -60,6 +60,6 @@ unfoldable pub accepted : Settings → Bool
 accepted s = allPass (refusals s)
 
 -- 01's number of each case
-abbrev pub numberOf : Checked → ℤ
-numberOf (Accepted s) = pos 0
-numberOf (Refused n) = n
+abbrev pub checkedNumber : Checked → ℤ
+checkedNumber (Accepted s) = pos 0
+checkedNumber (Refused n) = n

@@ -15,7 +15,7 @@ ghost use Rattle.settings.specs.Settings.{
   checked,
 };
 ghost use Rattle.settings.specs.Words.{wordsOf, settingsOf, size};
-ghost use Rattle.settings.specs.Bench.{bench as benchOf};
+ghost use Rattle.settings.specs.BenchSettings.{benchSettings};
 
 // The ends of the period.
 pub const SHORTEST: i32 = 100;
@@ -46,8 +46,8 @@ pub struct Settings {
 }
 
 // 01's bench set, with which its program runs.
-pub fn bench() -> Settings
-    ensures { λ r. ⌜ r ≡ benchOf ⌝ }
+pub fn bench_settings() -> Settings
+    ensures { λ r. ⌜ r ≡ benchSettings ⌝ }
 {
     Settings {
         t: 600,

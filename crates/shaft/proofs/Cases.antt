@@ -4,24 +4,24 @@ use mathlib.Core.Path.{_≡_, refl}
 use mathlib.Core.Bool.{false}
 use lib.IntN.{ℤ, pos, negℤ}
 use Rattle.fixed.specs.Fixed.{down, modulo, held}
-use Rattle.shaft.specs.Shaft.{signed, movement, moved, rampedTo, ramped, sizeOf, weakened}
+use Rattle.shaft.specs.Shaft.{signed16, movement, moved, rampedTo, ramped, sizeOf, weakened}
 
 -- ════ round the end of the counter
 one-up : movement (pos 0) (pos 65535) ≡ pos 1
-unfolding movement signed modulo down
+unfolding movement signed16 modulo down
 one-up = refl
 
 one-down : movement (pos 65535) (pos 0) ≡ negℤ (pos 1)
-unfolding movement signed modulo down
+unfolding movement signed16 modulo down
 one-down = refl
 
 -- half a turn is negative
 half-turn : movement (pos 32768) (pos 0) ≡ negℤ (pos 32768)
-unfolding movement signed modulo down
+unfolding movement signed16 modulo down
 half-turn = refl
 
 most : movement (pos 32767) (pos 0) ≡ pos 32767
-unfolding movement signed modulo down
+unfolding movement signed16 modulo down
 most = refl
 
 -- no count seen yet: there is no movement, whatever is stored

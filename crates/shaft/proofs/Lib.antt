@@ -1,5 +1,5 @@
 pub mod Counts
-pub mod ShaftTold
+pub mod ShaftFromBits
 pub mod Window
 pub mod Ramp
 pub mod Weakening

@@ -13,7 +13,7 @@ use Rattle.fixed.proofs.Size.{abs-hi}
 use Rattle.fixed.proofs.HeldLaws.{and-both, within-yes, within-abs, within-of}
 use Rattle.fixed.proofs.Ranges.{In, Inside, four, in-lo, in-size}
 use Rattle.shaft.specs.declared.Shaft.{Shaft}
-use Rattle.shaft.specs.Shaft.{counts, window, farthest, fastest, unmoved, counted, thirtieth, measured, rampedTo, weakened, shaftOk, Count, Sized}
+use Rattle.shaft.specs.Shaft.{counts, window, farthest, fastest, unmoved, counted, thirtieth, measured, rampedTo, weakened, shaftOk, Count, ShaftSized}
 use Rattle.shaft.proofs.Window as law
 use Rattle.shaft.proofs.Ramp.{ramp-size}
 use Rattle.shaft.proofs.Weakening.{weakened-lo, weakened-hi}
@@ -47,7 +47,7 @@ sum-inside (negsuc n) x h e = absurd (h .le)
 pub speed-size : (s : Shaft) → ShaftIn s → natAbs (s .speed) ≤ fastest
 speed-size s i = within-abs fastest (s .speed) (i .speed)
 
-pub sized : (s : Shaft) → ShaftIn s → Sized s
+pub sized : (s : Shaft) → ShaftIn s → ShaftSized s
 sized s i = record {
   count = i .count;
   sum = omega (arith, sum-size (s .steps) (s .sum) (in-lo window (s .steps) (i .steps)) (i .sum), in-size window (s .steps) (i .steps));

@@ -16,11 +16,11 @@ use Rattle.fixed.proofs.Size.{abs-+, abs←}
 use Rattle.fixed.proofs.DownLaws.{modulo-lo, modulo-hi}
 use Rattle.fixed.proofs.HeldLaws.{held-size, within-lo, within-hi}
 use Rattle.shaft.specs.declared.Shaft.{Shaft}
-use Rattle.shaft.specs.Shaft.{signed, movement, moved, counted, thirtieth, speedOf, fastest}
+use Rattle.shaft.specs.Shaft.{signed16, movement, moved, counted, thirtieth, speedOf, fastest}
 
 -- ════ one movement
-signed-cases : (Q : ℤ → Type 0) (m : ℤ) → (m <ℤ pos 32768 → Q m) → (pos 32768 ≤ℤ m → Q (m -ℤ pos 65536)) → Q (signed m)
-unfolding signed
+signed-cases : (Q : ℤ → Type 0) (m : ℤ) → (m <ℤ pos 32768 → Q m) → (pos 32768 ≤ℤ m → Q (m -ℤ pos 65536)) → Q (signed16 m)
+unfolding signed16
 signed-cases Q m f g = cond-ind (ltZ m (pos 32768)) m (m -ℤ pos 65536) Q (λ t. f (ltZ-yes t)) (λ t. g (ltZ-no {a = m} t))
 
 pub movement-lo : (count previous : ℤ) → negℤ (pos 32768) ≤ℤ movement count previous

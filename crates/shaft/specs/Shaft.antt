@@ -24,12 +24,12 @@ fastest = 16383
 
 -- ════ rules 1 and 2
 -- 0..32767 as it is, 32768..65535 less 65536
-unfoldable pub signed : ℤ → ℤ
-signed m = cond (ltZ m (pos 32768)) m (m -ℤ pos 65536)
+unfoldable pub signed16 : ℤ → ℤ
+signed16 m = cond (ltZ m (pos 32768)) m (m -ℤ pos 65536)
 
 -- count minus previous count, taken round a 16-bit counter that wraps
 unfoldable pub movement : ℤ → ℤ → ℤ
-movement count previous = signed (modulo (count -ℤ previous) (pos 65536))
+movement count previous = signed16 (modulo (count -ℤ previous) (pos 65536))
 
 -- the first step after fresh only stores the count: its movement is 0
 unfoldable pub moved : Shaft → ℤ → ℤ
@@ -87,7 +87,7 @@ shaftOk s =
 abbrev pub Count : ℤ → Type 0
 Count c = isIn counts c ≡ true
 
-pub record Sized (s : Shaft) : Type 0 where
+pub record ShaftSized (s : Shaft) : Type 0 where
   pub count : Count (s .count)
   pub sum : natAbs (s .sum) ≤ farthest * window .hi
   pub steps : natAbs (s .steps) ≤ window .hi

@@ -4,7 +4,7 @@ ghost use Prim.Native.Nat.{_≤_};
 ghost use lib.IntN.{pos, natAbs, negℤ};
 ghost use lib.Signed.{_≤ℤ_};
 ghost use Rattle.shaft.specs.Shaft.{
-  signed as signedOf,
+  signed16 as signedOf,
   movement as movementOf,
   moved as movedOf,
   counted as countedOf,
@@ -18,7 +18,7 @@ ghost use Rattle.shaft.specs.Shaft.{
   unmoved as unmovedOf,
   shaftOk,
   Count,
-  Sized,
+  ShaftSized,
 };
 
 // The highest speed, and the highest backwards.
@@ -56,7 +56,7 @@ pub fn movement(count: i32, previous: i32) -> i32
 
 // The movement of a step; a drive that has seen no count yet has nothing to take it from.
 fn moved(s: Shaft, count: i32) -> i32
-    requires { ⌜ Sized s × Count count ⌝ }
+    requires { ⌜ ShaftSized s × Count count ⌝ }
     ensures { λ r. ⌜ r ≡ movedOf s count ⌝ }
 {
     if s.seen { movement(count, s.count) } else { 0 }
@@ -64,7 +64,7 @@ fn moved(s: Shaft, count: i32) -> i32
 
 // Rule 1.
 pub fn counted(s: Shaft, count: i32) -> Shaft
-    requires { ⌜ Sized s × Count count ⌝ }
+    requires { ⌜ ShaftSized s × Count count ⌝ }
     ensures { λ r. ⌜ r ≡ countedOf s count ⌝ }
 {
     let m = moved(s, count);

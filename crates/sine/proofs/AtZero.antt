@@ -4,15 +4,15 @@ use mathlib.Core.Path.{_≡_, refl, _∙_}
 use lib.Dec.{lit<}
 use lib.IntN.{pos}
 use Rattle.fixed.specs.Fixed.{down}
-use Rattle.sine.specs.Sine.{rootFrom, root, halved, cos2, cos1, sin1, turn, turned, rising, half, sineEntry, indexOf, sineIn, cosineIn, sineAt, cosineAt}
+use Rattle.sine.specs.Sine.{rootFrom, root, halved, cos2, cos1, sin1, turn, turnedBy, rising, half, sineEntry, indexOf, sineIn, cosineIn, sineAt, cosineAt}
 use Rattle.sine.proofs.Rule.{entry-at}
 
 entry-0 : sineEntry 0 ≡ pos 0
-unfolding sineEntry half rising turned down
+unfolding sineEntry half rising turnedBy down
 entry-0 = refl
 
 entry-64 : sineEntry 64 ≡ pos 4096
-unfolding sineEntry half rising turned turn cos1 sin1 cos2 halved root rootFrom down
+unfolding sineEntry half rising turnedBy turn cos1 sin1 cos2 halved root rootFrom down
 entry-64 = refl
 
 pub sine-at-0 : sineAt (pos 0) ≡ pos 0

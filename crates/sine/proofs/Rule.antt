@@ -12,7 +12,7 @@ use lib.IntN.{ℤ, pos, negsuc, natAbs}
 use lib.ListN.{getD}
 use Rattle.fixed.specs.Fixed.{down}
 use Rattle.fixed.proofs.Parts.{order}
-use Rattle.sine.specs.Sine.{sineEntry, half, rising, turned, turn, cos1, cos2, sin1, halved, root, rootFrom, entriesFrom, sineTable, Angle, indexOf, sineIn, cosineIn, sineAt, cosineAt}
+use Rattle.sine.specs.Sine.{sineEntry, half, rising, turnedBy, turn, cos1, cos2, sin1, halved, root, rootFrom, entriesFrom, sineTable, Angle, indexOf, sineIn, cosineIn, sineAt, cosineAt}
 
 and-left : (a b : Bool) → T (a && b) → T a
 and-left true b t = tt
@@ -73,7 +73,7 @@ all-at (z ∷ zs) zero t = and-left (inside z) (all zs) t
 all-at (z ∷ zs) (suc k) t = all-at zs k (and-right (inside z) (all zs) t)
 
 table-inside : T (all sineTable)
-unfolding sineTable entriesFrom sineEntry half rising turned turn cos1 cos2 sin1 halved root rootFrom down
+unfolding sineTable entriesFrom sineEntry half rising turnedBy turn cos1 cos2 sin1 halved root rootFrom down
 table-inside = tt
 
 entry-size : (k : ℕ) → natAbs (getD sineTable k (pos 0)) ≤ 4096

@@ -49,13 +49,13 @@ turn p = record {
 }
 
 -- k steps from (cos S, sin 0)
-unfoldable pub turned : ℕ → Pair
-turned zero = record { cos = pos scale; sin = pos 0 }
-turned (suc k) = turn (turned k)
+unfoldable pub turnedBy : ℕ → Pair
+turnedBy zero = record { cos = pos scale; sin = pos 0 }
+turnedBy (suc k) = turn (turnedBy k)
 
 -- entries 0 to 64: (4096·sin + S/2)/S down
 unfoldable pub rising : ℕ → ℤ
-rising k = down (pos 4096 *ℤ turned k .sin +ℤ pos (scale / 2)) (pos scale)
+rising k = down (pos 4096 *ℤ turnedBy k .sin +ℤ pos (scale / 2)) (pos scale)
 
 -- entries 0 to 128: t(128 − k) = t(k)
 unfoldable pub half : ℕ → ℤ

@@ -21,16 +21,16 @@ use Rattle.shaft.specs.declared.Shaft.{Shaft}
 use Rattle.shaft.specs.Shaft.{thirtieth, Count}
 use Rattle.shaft.proofs.ShaftRanges.{ShaftIn, counted-in, measured-in, ramped-in, weakened-in}
 use Rattle.settings.specs.declared.Settings.{Settings}
-use Rattle.record.specs.declared.Drive.{Drive}
+use Rattle.drive_record.specs.declared.Drive.{Drive}
 use Rattle.settings.specs.Settings.{accepted}
 use Rattle.fixed.specs.Fixed.{inside}
-use Rattle.record.specs.Record.{targetEnd, broken}
-use Rattle.stages.specs.Step.{speedGains, currentGains, speedRegulated, currentRegulated, rampedBy, withTorque, withSpeed, withShaft, withCommand, commanded, turned, currents, fieldAfter, dRegulated, qRegulated, voltageOf, voltageFor, withField, outcome, pulsed, driven, advanced, sampleOk, Currents, Turning}
+use Rattle.drive_record.specs.Record.{targetEnd, broken}
+use Rattle.stages.specs.Step.{speedGains, currentGains, speedRegulated, currentRegulated, rampedBy, withTorque, withSpeed, withShaft, withCommand, commanded, rules1And2, currents, fieldAfter, dRegulated, qRegulated, voltageOf, voltageFor, withField, outcome, rules6To9, rules3To9, advanced, sampleOk, Currents, SineCosineSized}
 use Rattle.fixed.specs.Fixed.{within}
 use Rattle.fixed.proofs.Ranges.{Inside, in-lo, in-hi, in-up, inside-size, zero-inside}
 use Rattle.settings.specs.Ranges as range
 use Rattle.settings.proofs.Ranges.{GainsIn, SettingsIn, accepted→, accepted←}
-use Rattle.record.proofs.Ranges.{Sound}
+use Rattle.drive_record.proofs.Ranges.{Sound}
 use Rattle.stages.proofs.Sizes as size
 
 -- ════ the regulators: output and integral within the limits
@@ -89,15 +89,15 @@ pub choose : {A : Type 0} (Q : A → Type 0) (b : Bool) (x y : A) → (b ≡ tru
 choose Q true x y f g = f refl
 choose Q false x y f g = g refl
 
-pub turned-sound : (d : Drive) (count : ℤ) → Sound d → Count count → Sound (turned d count)
-unfolding turned
-turned-sound d count h c =
+pub rules-1-and-2-sound : (d : Drive) (count : ℤ) → Sound d → Count count → Sound (rules1And2 d count)
+unfolding rules1And2
+rules-1-and-2-sound d count h c =
     choose Sound (thirtieth (d .shaft)) _ _
     (λ e. commanded-sound d _ h (measured-in (d .shaft) count (d .settings .kn) c))
     (λ e. with-shaft-sound d _ h (counted-in (d .shaft) count (h .shaft) c e))
 
 -- ════ rules 3 to 5
-pub currents-size : (ia ib sin cos : ℤ) → Currents ia ib → Turning sin cos → (natAbs (currents ia ib sin cos .d) ≤ rotorEnd) × (natAbs (currents ia ib sin cos .q) ≤ rotorEnd)
+pub currents-size : (ia ib sin cos : ℤ) → Currents ia ib → SineCosineSized sin cos → (natAbs (currents ia ib sin cos .d) ≤ rotorEnd) × (natAbs (currents ia ib sin cos .q) ≤ rotorEnd)
 unfolding currents
 currents-size ia ib sin cos c t = rotor-size ia ib sin cos (c .ia-size) (c .ib-size) (c .both-size) (t .sin-size) (t .cos-size)
 
@@ -134,15 +134,15 @@ asked-size d i h =
     let out : (x e : ℤ) → natAbs (regulated x e (currentGains s) (s .v) .out) ≤ 4096 = λ x e. inside-size (s .v) (regulated x e (currentGains s) (s .v) .out) 4096 (size.v-size d h) (out-inside x e (currentGains s) (s .v) law (size.v-lo d h)) in
     (out (d .integrals .d) (d .command .flux -ℤ i .d), out (d .integrals .q) (d .command .torque -ℤ i .q))
 
-pub turning : (a : ℤ) → Turning (sineAt a) (cosineAt a)
-turning a = record { sin-size = sine-size a; cos-size = cosine-size a }
+pub sine-cosine-sized : (a : ℤ) → SineCosineSized (sineAt a) (cosineAt a)
+sine-cosine-sized a = record { sin-size = sine-size a; cos-size = cosine-size a }
 
-pub driven-sound : (d : Drive) (ia ib sin cos : ℤ) → Sound d → Currents ia ib → Turning sin cos → Sound (driven d ia ib sin cos .drive)
-unfolding driven pulsed outcome
-driven-sound d ia ib sin cos h c t = let z = currents-size ia ib sin cos c t in field-sound d (currents ia ib sin cos) h (z .0)
+pub rules-3-to-9-sound : (d : Drive) (ia ib sin cos : ℤ) → Sound d → Currents ia ib → SineCosineSized sin cos → Sound (rules3To9 d ia ib sin cos .drive)
+unfolding rules3To9 rules6To9 outcome
+rules-3-to-9-sound d ia ib sin cos h c t = let z = currents-size ia ib sin cos c t in field-sound d (currents ia ib sin cos) h (z .0)
 
 pub advanced-sound : (d : Drive) (ia ib count : ℤ) → Sound d → sampleOk ia ib count ≡ true → Sound (advanced d ia ib count .drive)
 unfolding advanced
 advanced-sound d ia ib count h e =
     let a = d .field .angle in
-    driven-sound (turned d count) ia ib (sineAt a) (cosineAt a) (turned-sound d count h (size.samples→ ia ib count e .3)) (size.samples ia ib count e) (turning a)
+    rules-3-to-9-sound (rules1And2 d count) ia ib (sineAt a) (cosineAt a) (rules-1-and-2-sound d count h (size.samples→ ia ib count e .3)) (size.samples ia ib count e) (sine-cosine-sized a)

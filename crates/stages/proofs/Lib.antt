@@ -2,4 +2,4 @@ pub mod Sizes
 pub mod Kept
 pub mod Regulating
 pub mod Samples
-pub mod SteppedTold
+pub mod SteppedFromBits

@@ -15,15 +15,15 @@ use Rattle.fixed.proofs.HeldLaws.{within-lo, within-hi, within-size, within-abs
 use Rattle.shaft.specs.Shaft.{counts, Count}
 use Rattle.frames.specs.Frames.{sampleEnd}
 use Rattle.regulator.specs.Regulator.{widest}
-use Rattle.record.specs.Record.{targetEnd}
+use Rattle.drive_record.specs.Record.{targetEnd}
 use Rattle.modulation.specs.Modulation.{Period}
 use Rattle.settings.specs.declared.Settings.{Settings}
-use Rattle.record.specs.declared.Drive.{Drive}
+use Rattle.drive_record.specs.declared.Drive.{Drive}
 use Rattle.stages.specs.Step.{Currents}
 use Rattle.stages.specs.Step.{sampleOk}
 use Rattle.fixed.proofs.Ranges.{Inside, four, in-lo, in-hi, in-up, in-size, inside-size}
 use Rattle.settings.specs.Ranges as range
-use Rattle.record.proofs.Ranges.{Sound}
+use Rattle.drive_record.proofs.Ranges.{Sound}
 
 -- ════ of a sound drive
 module _ (d : Drive) (h : Sound d) where

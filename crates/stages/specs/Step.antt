@@ -17,12 +17,12 @@ use Rattle.shaft.specs.declared.Shaft.{Shaft}
 use Rattle.shaft.specs.Shaft.{counts, counted, thirtieth, measured, rampedTo, weakened}
 use Rattle.modulation.specs.Modulation.{modulated}
 use Rattle.settings.specs.declared.Settings.{Settings}
-use Rattle.record.specs.declared.Command.{Command}
-use Rattle.record.specs.declared.Integrals.{Integrals}
-use Rattle.record.specs.declared.Drive.{Drive}
+use Rattle.drive_record.specs.declared.Command.{Command}
+use Rattle.drive_record.specs.declared.Integrals.{Integrals}
+use Rattle.drive_record.specs.declared.Drive.{Drive}
 use Rattle.stages.specs.declared.Voltage.{Voltage}
 use Rattle.stages.specs.declared.Stepped.{Stepped}
-use Rattle.record.specs.Record.{sound}
+use Rattle.drive_record.specs.Record.{sound}
 
 -- ════ the regulators: two gain sets, speed with limits ±Q, and current, which d and q share, with limits ±V
 unfoldable pub speedGains : Settings → Gains
@@ -86,8 +86,8 @@ commanded d s =
     (speedRegulated (d .settings) (d .integrals .speed) (rampedBy d (s .speed) .reference) (s .speed))
 
 -- rules 1 and 2: every step counts, every 30th measures the speed and commands
-unfoldable pub turned : Drive → ℤ → Drive
-turned d count =
+unfoldable pub rules1And2 : Drive → ℤ → Drive
+rules1And2 d count =
     cond (thirtieth (d .shaft))
     (commanded d (measured (counted (d .shaft) count) (d .settings .kn)))
     (withShaft d (counted (d .shaft) count))
@@ -133,17 +133,17 @@ unfoldable pub outcome : Drive → Stator → Stepped
 outcome d v = record { drive = d; number = pos 0; pulses = modulated (d .settings .t) (v .alpha) (v .beta); voltage = v }
 
 -- rules 6 to 9, for the currents i and the old angle's sine and cosine
-unfoldable pub pulsed : Drive → Rotor → ℤ → ℤ → Stepped
-pulsed d i sin cos =
+unfoldable pub rules6To9 : Drive → Rotor → ℤ → ℤ → Stepped
+rules6To9 d i sin cos =
     outcome (withField d (fieldAfter d i) (voltageFor d i .integrals)) (inversePark (voltageFor d i .asked) sin cos)
 
 -- rules 3 to 9
-unfoldable pub driven : Drive → ℤ → ℤ → ℤ → ℤ → Stepped
-driven d ia ib sin cos = pulsed d (currents ia ib sin cos) sin cos
+unfoldable pub rules3To9 : Drive → ℤ → ℤ → ℤ → ℤ → Stepped
+rules3To9 d ia ib sin cos = rules6To9 d (currents ia ib sin cos) sin cos
 
 -- rules 1 to 9
 unfoldable pub advanced : Drive → ℤ → ℤ → ℤ → Stepped
-advanced d ia ib count = driven (turned d count) ia ib (sineAt (d .field .angle)) (cosineAt (d .field .angle))
+advanced d ia ib count = rules3To9 (rules1And2 d count) ia ib (sineAt (d .field .angle)) (cosineAt (d .field .angle))
 
 -- ════ the samples that a step takes
 -- ia, ib and ia + ib within ±8191, count within 0..65535
@@ -155,7 +155,7 @@ sampleOk ia ib count =
 abbrev pub errorSize : ℕ
 errorSize = widest + rotorEnd
 
-pub record Erring (x wanted actual : ℤ) : Type 0 where
+pub record ErrorSized (x wanted actual : ℤ) : Type 0 where
   pub x-size : natAbs x ≤ widest
   pub wanted-size : natAbs wanted ≤ widest
   pub actual-size : natAbs actual ≤ rotorEnd
@@ -166,11 +166,11 @@ pub record Currents (ia ib : ℤ) : Type 0 where
   pub both-size : natAbs (ia +ℤ ib) ≤ sampleEnd
 
 -- a sound drive, and currents that are a rotor's
-pub record Moving (d : Drive) (i : Rotor) : Type 0 where
+pub record SoundWithCurrents (d : Drive) (i : Rotor) : Type 0 where
   pub is-sound : sound d ≡ true
   pub d-size : natAbs (i .d) ≤ rotorEnd
   pub q-size : natAbs (i .q) ≤ rotorEnd
 
-pub record Turning (sin cos : ℤ) : Type 0 where
+pub record SineCosineSized (sin cos : ℤ) : Type 0 where
   pub sin-size : natAbs sin ≤ 4096
   pub cos-size : natAbs cos ≤ 4096

@@ -4,9 +4,9 @@ ghost use mathlib.Core.Bool.{true};
 ghost use Prim.Native.Nat.{_≤_};
 ghost use lib.IntN.{natAbs, _-ℤ_};
 ghost use Rattle.sine.specs.Sine.{sineTable};
-ghost use Rattle.regulator.specs.Regulator.{Sized};
+ghost use Rattle.regulator.specs.Regulator.{RegulatorSized};
 ghost use Rattle.shaft.specs.Shaft.{fastest, Count};
-ghost use Rattle.record.specs.Record.{sound as soundOf};
+ghost use Rattle.drive_record.specs.Record.{sound as soundOf};
 ghost use Rattle.stages.specs.Step.{
   speedGains,
   currentGains,
@@ -14,26 +14,26 @@ ghost use Rattle.stages.specs.Step.{
   rampedBy,
   withCommand,
   commanded as commandedOf,
-  turned as turnedOf,
+  rules1And2,
   currents as currentsOf,
   fieldAfter,
   voltageFor,
   withField,
-  pulsed as pulsedOf,
+  rules6To9,
   advanced,
   sampleOk,
-  Erring,
+  ErrorSized,
   Currents,
-  Moving,
-  Turning,
+  SoundWithCurrents,
+  SineCosineSized,
 };
+use drive_record::Command;
+use drive_record::Drive;
+use drive_record::Integrals;
 use field::Field;
 use frames::Rotor;
 use frames::Stator;
 use modulation::Pulses;
-use record::Command;
-use record::Drive;
-use record::Integrals;
 use regulator::Gains;
 use regulator::Regulated;
 use settings::Settings;
@@ -76,7 +76,7 @@ fn current_gains(s: Settings) -> Gains
 
 // A regulator, for speed, d or q: from its integral x, what is wanted and what is.
 fn steered(x: i32, wanted: i32, actual: i32, g: Gains, limit: i32) -> Regulated
-    requires { ⌜ Erring x wanted actual × Sized x (wanted -ℤ actual) g limit ⌝ }
+    requires { ⌜ ErrorSized x wanted actual × RegulatorSized x (wanted -ℤ actual) g limit ⌝ }
     ensures { λ r. ⌜ r ≡ steeredOf x wanted actual g limit ⌝ }
 {
     regulator::regulate(x, wanted - actual, g, limit)
@@ -121,9 +121,9 @@ fn commanded(d: Drive, s: Shaft) -> Drive
 }
 
 // Rules 1 and 2.
-fn turned(d: Drive, count: i32) -> Drive
+fn rules_1_and_2(d: Drive, count: i32) -> Drive
     requires { ⌜ (soundOf d ≡ true) × Count count ⌝ }
-    ensures { λ r. ⌜ r ≡ turnedOf d count ⌝ }
+    ensures { λ r. ⌜ r ≡ rules1And2 d count ⌝ }
 {
     let s = shaft::counted(d.shaft, count);
     if shaft::thirtieth(d.shaft) {
@@ -137,7 +137,7 @@ fn turned(d: Drive, count: i32) -> Drive
 
 // Rules 3 and 5.
 fn currents(ia: i32, ib: i32, sin: i32, cos: i32) -> Rotor
-    requires { ⌜ Currents ia ib × Turning sin cos ⌝ }
+    requires { ⌜ Currents ia ib × SineCosineSized sin cos ⌝ }
     ensures { λ r. ⌜ r ≡ currentsOf ia ib sin cos ⌝ }
 {
     frames::park(frames::clarke(ia, ib), sin, cos)
@@ -145,7 +145,7 @@ fn currents(ia: i32, ib: i32, sin: i32, cos: i32) -> Rotor
 
 // Rule 6.
 fn field_after(d: Drive, i: Rotor) -> Field
-    requires { ⌜ Moving d i ⌝ }
+    requires { ⌜ SoundWithCurrents d i ⌝ }
     ensures { λ r. ⌜ r ≡ fieldAfter d i ⌝ }
 {
     let s = d.settings;
@@ -154,7 +154,7 @@ fn field_after(d: Drive, i: Rotor) -> Field
 
 // Rule 7.
 fn voltage_for(d: Drive, i: Rotor) -> Voltage
-    requires { ⌜ Moving d i ⌝ }
+    requires { ⌜ SoundWithCurrents d i ⌝ }
     ensures { λ r. ⌜ r ≡ voltageFor d i ⌝ }
 {
     let g = current_gains(d.settings);
@@ -179,9 +179,9 @@ fn with_field(d: Drive, f: Field, x: Integrals) -> Drive
 }
 
 // Rules 6 to 9. The sine and cosine are the old angle's, for Park and for inverse Park.
-fn pulsed(d: Drive, i: Rotor, sin: i32, cos: i32) -> Stepped
-    requires { ⌜ Moving d i × Turning sin cos ⌝ }
-    ensures { λ r. ⌜ r ≡ pulsedOf d i sin cos ⌝ }
+fn rules_6_to_9(d: Drive, i: Rotor, sin: i32, cos: i32) -> Stepped
+    requires { ⌜ SoundWithCurrents d i × SineCosineSized sin cos ⌝ }
+    ensures { λ r. ⌜ r ≡ rules6To9 d i sin cos ⌝ }
 {
     let f = field_after(d, i);
     let u = voltage_for(d, i);
@@ -204,8 +204,8 @@ pub fn advance(d: Drive, ia: i32, ib: i32, count: i32, table: &sine::Table) -> S
     let angle = d.field.angle;
     let sin = sine::sine_in(table, angle);
     let cos = sine::cosine_in(table, angle);
-    let n = turned(d, count);
-    pulsed(n, currents(ia, ib, sin, cos), sin, cos)
+    let n = rules_1_and_2(d, count);
+    rules_6_to_9(n, currents(ia, ib, sin, cos), sin, cos)
 }
 
 // ia and ib are tested before their sum is formed.

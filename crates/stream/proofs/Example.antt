@@ -11,14 +11,14 @@ use Rattle.sine.proofs.AtZero.{sine-at-0, cosine-at-0}
 use Rattle.regulator.specs.Regulator.{sumOf, outOf as issued, nextOf, regulated}
 use Rattle.frames.specs.Frames.{clarke, park, inversePark}
 use Rattle.field.specs.Field.{fluxNext, slip, angleNext, followed, fieldOk}
-use Rattle.shaft.specs.Shaft.{signed, movement, moved, counted, thirtieth, speedOf, measured, rampedTo, sizeOf, weakened, shaftOk}
-use Rattle.modulation.specs.Modulation.{entriesOf, bit, numberOf, rowAt, rowOf, timeOf, clippedTimes, timesOf, compareAt, placed, modulated}
-use Rattle.record.specs.declared.Drive.{Drive}
-use Rattle.settings.specs.Bench.{bench}
+use Rattle.shaft.specs.Shaft.{signed16, movement, moved, counted, thirtieth, speedOf, measured, rampedTo, sizeOf, weakened, shaftOk}
+use Rattle.modulation.specs.Modulation.{entriesOf, bit, sectorNumber, sectorAt, sectorOf, timeOf, clippedTimes, timesOf, compareAt, placed, modulated}
+use Rattle.drive_record.specs.declared.Drive.{Drive}
+use Rattle.settings.specs.BenchSettings.{benchSettings}
 use Rattle.settings.specs.Settings.{periodOk, gainOk, gainsOk, tied, gainsTied, limitsOk, restOk, refusal, accepted}
-use Rattle.record.specs.Record.{commandOk, integralsOk, wordsOk, sound, broken}
-use Rattle.stages.specs.Step.{speedGains, currentGains, speedRegulated, currentRegulated, rampedBy, withTorque, withShaft, withSpeed, withCommand, commanded, turned, currents, fieldAfter, dRegulated, qRegulated, voltageOf, voltageFor, withField, advanced, driven, pulsed, outcome, sampleOk}
-use Rattle.drive.specs.Calls.{fresh, tripped, refused, taken, stepped}
+use Rattle.drive_record.specs.Record.{commandOk, integralsOk, wordsOk, sound, broken}
+use Rattle.stages.specs.Step.{speedGains, currentGains, speedRegulated, currentRegulated, rampedBy, withTorque, withShaft, withSpeed, withCommand, commanded, rules1And2, currents, fieldAfter, dRegulated, qRegulated, voltageOf, voltageFor, withField, advanced, rules3To9, rules6To9, outcome, sampleOk}
+use Rattle.drive.specs.Calls.{fresh, withTrip, refused, steppedSound, stepped}
 use Rattle.rows.specs.Rows.{rowStepped, four, isAccepted, isClipped}
 use Rattle.text.specs.Grammar.{allDigits, valueOf, digitsOf, fitting, numberOf as numberRead, cut, both, numbersOf, lineOf}
 use Rattle.text.specs.Decimal.{decimal, countText, textOf, moreText, numbersText, lineText}
@@ -50,7 +50,7 @@ output =
 -- the drive after the first row, and tripped or not
 unfoldable once : Bool → Drive
 once trip = record {
-  settings = bench;
+  settings = benchSettings;
   shaft = record { count = pos 0; seen = true; sum = pos 0; steps = pos 1; speed = pos 0 };
   command = record { target = pos 0; reference = pos 0; torque = pos 0; flux = pos 2458 };
   field = record { flux = pos 0; angle = pos 0 };
@@ -58,21 +58,21 @@ once trip = record {
   tripped = trip;
 }
 
-first : stepped (fresh bench) (pos 0) (pos 0) (pos 0) ≡ record {
+first : stepped (fresh benchSettings) (pos 0) (pos 0) (pos 0) ≡ record {
   drive = once false;
   number = pos 0;
   pulses = record { a = pos 144; b = pos 455; c = pos 455; clipped = false };
   voltage = record { alpha = pos 2458; beta = pos 0 };
 }
-unfolding once stepped taken sampleOk advanced driven pulsed outcome withField fieldAfter followed fluxNext slip angleNext voltageFor voltageOf dRegulated qRegulated currentRegulated currentGains turned commanded withCommand withTorque withShaft withSpeed rampedBy speedRegulated speedGains regulated issued nextOf sumOf rampedTo thirtieth counted measured moved movement signed modulo down speedOf held weakened sizeOf currents clarke park inversePark modulated placed compareAt timesOf clippedTimes timeOf rowOf rowAt numberOf bit entriesOf fresh bench accepted refusal periodOk gainsOk gainOk gainsTied tied limitsOk restOk sound wordsOk broken shaftOk commandOk fieldOk integralsOk inside
+unfolding once stepped steppedSound sampleOk advanced rules3To9 rules6To9 outcome withField fieldAfter followed fluxNext slip angleNext voltageFor voltageOf dRegulated qRegulated currentRegulated currentGains rules1And2 commanded withCommand withTorque withShaft withSpeed rampedBy speedRegulated speedGains regulated issued nextOf sumOf rampedTo thirtieth counted measured moved movement signed16 modulo down speedOf held weakened sizeOf currents clarke park inversePark modulated placed compareAt timesOf clippedTimes timeOf sectorOf sectorAt sectorNumber bit entriesOf fresh benchSettings accepted refusal periodOk gainsOk gainOk gainsTied tied limitsOk restOk sound wordsOk broken shaftOk commandOk fieldOk integralsOk inside
 first = rw (cosine-at-0, sine-at-0) refl
 
-second : stepped (once false) (pos 9000) (pos 0) (pos 0) ≡ refused (once true) (pos 6) (pos 600)
-unfolding once stepped taken tripped sampleOk bench accepted refusal periodOk gainsOk gainOk gainsTied tied limitsOk restOk sound wordsOk broken shaftOk commandOk fieldOk integralsOk inside
+second : stepped (once false) (pos 9000) (pos 0) (pos 0) ≡ refused (once true) (pos 600) (pos 6)
+unfolding once stepped steppedSound withTrip sampleOk benchSettings accepted refusal periodOk gainsOk gainOk gainsTied tied limitsOk restOk sound wordsOk broken shaftOk commandOk fieldOk integralsOk inside
 second = refl
 
-third : stepped (once true) (pos 0) (pos 0) (pos 0) ≡ refused (once true) (pos 7) (pos 600)
-unfolding once stepped taken bench accepted refusal periodOk gainsOk gainOk gainsTied tied limitsOk restOk sound wordsOk broken shaftOk commandOk fieldOk integralsOk inside
+third : stepped (once true) (pos 0) (pos 0) (pos 0) ≡ refused (once true) (pos 600) (pos 7)
+unfolding once stepped steppedSound benchSettings accepted refusal periodOk gainsOk gainOk gainsTied tied limitsOk restOk sound wordsOk broken shaftOk commandOk fieldOk integralsOk inside
 third = refl
 
 -- what the lines mean
@@ -109,7 +109,7 @@ rows-read = (rw (cut-lines .0, still-read, wild-read) refl, rw (cut-lines .0, cu
 abbrev rowsAt : Bool → ℕ → Tally
 rowsAt trip n = record { drive = once trip; rows = n; accepted = 1; clipped = 0 }
 
-after-first : tallyOf (tallyStart (fresh bench)) still ≡ rowsAt false 1
+after-first : tallyOf (tallyStart (fresh benchSettings)) still ≡ rowsAt false 1
 unfolding tallyOf rowStepped isAccepted isClipped
 after-first = rw first refl
 
@@ -121,7 +121,7 @@ after-third : tallyOf (rowsAt true 2) still ≡ rowsAt true 3
 unfolding tallyOf rowStepped isAccepted isClipped refused
 after-third = rw third refl
 
-first-text : answerText (tallyStart (fresh bench)) still ≡ 49 ∷ 52 ∷ 52 ∷ 32 ∷ 52 ∷ 53 ∷ 53 ∷ 32 ∷ 52 ∷ 53 ∷ 53 ∷ 32 ∷ 48 ∷ 10 ∷ []
+first-text : answerText (tallyStart (fresh benchSettings)) still ≡ 49 ∷ 52 ∷ 52 ∷ 32 ∷ 52 ∷ 53 ∷ 53 ∷ 32 ∷ 52 ∷ 53 ∷ 53 ∷ 32 ∷ 48 ∷ 10 ∷ []
 unfolding answerText rowStepped four lineText numbersText moreText textOf countText decimal
 first-text = rw first refl
 
@@ -134,11 +134,11 @@ unfolding answerText rowStepped four refused lineText numbersText moreText textO
 third-text = rw third refl
 
 -- row by row
-all-after : afterAll tallyOf (tallyStart (fresh bench)) (still ∷ wild ∷ still ∷ []) ≡ rowsAt true 3
+all-after : afterAll tallyOf (tallyStart (fresh benchSettings)) (still ∷ wild ∷ still ∷ []) ≡ rowsAt true 3
 unfolding afterAll
 all-after = rw (after-first, after-second, after-third) refl
 
-answers : answersTo tallyOf answerText (tallyStart (fresh bench)) (still ∷ wild ∷ still ∷ []) ≡
+answers : answersTo tallyOf answerText (tallyStart (fresh benchSettings)) (still ∷ wild ∷ still ∷ []) ≡
     49 ∷ 52 ∷ 52 ∷ 32 ∷ 52 ∷ 53 ∷ 53 ∷ 32 ∷ 52 ∷ 53 ∷ 53 ∷ 32 ∷ 48 ∷ 10
     ∷ 54 ∷ 48 ∷ 48 ∷ 32 ∷ 54 ∷ 48 ∷ 48 ∷ 32 ∷ 54 ∷ 48 ∷ 48 ∷ 32 ∷ 54 ∷ 10
     ∷ 54 ∷ 48 ∷ 48 ∷ 32 ∷ 54 ∷ 48 ∷ 48 ∷ 32 ∷ 54 ∷ 48 ∷ 48 ∷ 32 ∷ 55 ∷ 10
@@ -150,10 +150,10 @@ closing : closingText false (rowsAt true 3) ≡ 115 ∷ 116 ∷ 101 ∷ 112 ∷ 
 unfolding closingText totalsText countText decimal
 closing = refl
 
-pub example : programText (fresh bench) input ≡ output
+pub example : programText (fresh benchSettings) input ≡ output
 unfolding programText headerText
 example = rw (rows-read .0, rows-read .1, answers, all-after, closing) refl
 
 -- in whatever chunks it comes
-pub example-in-pieces : (cs : List (List ℕ)) → joined cs ≡ input → headerText ++ chunksText (streamStart (fresh bench)) cs ≡ output
-example-in-pieces cs e = program (fresh bench) cs ∙ ap (programText (fresh bench)) e ∙ example
+pub example-in-pieces : (cs : List (List ℕ)) → joined cs ≡ input → headerText ++ chunksText (streamStart (fresh benchSettings)) cs ≡ output
+example-in-pieces cs e = program (fresh benchSettings) cs ∙ ap (programText (fresh benchSettings)) e ∙ example

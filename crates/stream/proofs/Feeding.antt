@@ -11,8 +11,8 @@ use lib.IntN.{ℤ}
 use lib.ListN.{length, take, drop}
 use lib.Seq.{take-all, length-take-le}
 use Rattle.fixed.proofs.HeldLaws.{and-right}
-use Rattle.record.specs.Record.{sound}
-use Rattle.record.proofs.Ranges.{Sound, sound←}
+use Rattle.drive_record.specs.Record.{sound}
+use Rattle.drive_record.proofs.Ranges.{Sound, sound←}
 use Rattle.rows.proofs.Runs.{row-sound}
 use Rattle.text.specs.declared.Line.{Line}
 use Rattle.text.specs.Automaton.{lineStart}

@@ -12,11 +12,11 @@ use borrow.Author.Tests.{eqb-true, eq-eqb, le-leb}
 use lib.Dec.{eqb}
 use lib.IntN.{ℤ, pos}
 use lib.ListN.{length, replicate, length-append, length-replicate, drop-of-length-le}
-use Rattle.record.specs.declared.Drive.{Drive}
-use Rattle.record.specs.Record.{broken}
+use Rattle.drive_record.specs.declared.Drive.{Drive}
+use Rattle.drive_record.specs.Record.{broken}
 use Rattle.stages.specs.declared.Stepped.{Stepped}
 use Rattle.rows.specs.declared.Ran.{Ran}
-use Rattle.rows.specs.Rows.{rowStepped, four, one, isAccepted, isClipped, none as noRows, afterRow, ranOf, writtenOf, rowsIn, rowsFit, runOf, outOf}
+use Rattle.rows.specs.Rows.{rowStepped, four, one, isAccepted, isClipped, noRows, afterRow, ranOf, writtenOf, rowsIn, rowsFit, runOf, outputAfter}
 use Rattle.fixed.proofs.HeldLaws.{and-both}
 use Rattle.rows.proofs.Runs.{one-most}
 use Rattle.rows.proofs.Outcomes.{run-0}
@@ -166,7 +166,7 @@ one-run d input b =
     let out = replicate (4 * rowsIn samples) (pos 0) in
     let o : length out ≡ 4 * n = length-replicate (4 * rowsIn samples) (pos 0) ∙ ap (λ (j : ℕ). 4 * j) e in
     let r = run-0 d samples out b (rows-fit (length samples) (length out) n m o) in
-    let w : outOf d samples out ≡ writtenOf d samples n =
+    let w : outputAfter d samples out ≡ writtenOf d samples n =
     r .1 ∙ ap₂ (λ (j : ℕ) (l : List ℤ). writtenOf d samples j ++ l) e (drop-of-length-le out {i = 4 * rowsIn samples} (omega (arith, e, o))) ∙ append-nil (writtenOf d samples n) in
     let q : runOf d samples out ≡ ranOf d samples n = r .0 ∙ ap (ranOf d samples) e in
     let h = rows-run (tallyStart d) k (record { rows = omega arith; accepted = omega arith; clipped = omega arith }) in

@@ -8,8 +8,8 @@ use native.Mathlib.Omega.{arith}
 use borrow.Author.Tests.{eqb-true}
 use lib.IntN.{pos}
 use lib.ListN.{length}
-use Rattle.record.specs.declared.Drive.{Drive}
-use Rattle.feeding.specs.Feeding.{Fed, fedOf, textOf, joined}
+use Rattle.drive_record.specs.declared.Drive.{Drive}
+use Rattle.feeding.specs.Feeding.{Fed, fedOf, textFed, joined}
 use Rattle.feeding.proofs.Meaning.{Room}
 use Rattle.feeding.proofs.Pieces.{fed-in-pieces, text-in-pieces, fed-stopped, text-stopped}
 use Rattle.feeding.proofs.Whole.{comes}
@@ -27,7 +27,7 @@ abbrev onward : Fed Tally → List ℕ → List ℕ
 onward s bs = rowsText s bs ++ lastText (rowsFed s bs)
 
 chunks : (s : Fed Tally) (cs : List (List ℕ)) → chunksText s cs ≡ onward s (joined cs)
-unfolding chunksText joined fedOf textOf
+unfolding chunksText joined fedOf textFed
 chunks s [] = refl
 chunks s (c ∷ cs) =
     rw (text-in-pieces isRow tallyOf answerText s c (joined cs), fed-in-pieces isRow tallyOf s c (joined cs), append-assoc) (ap (λ (t : List ℕ). rowsText s c ++ t) (chunks (rowsFed s c) cs))

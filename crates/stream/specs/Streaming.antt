@@ -2,8 +2,8 @@
 use Prim.Native.Nat.{ℕ}
 use mathlib.Core.List.{List, [], _∷_, _++_}
 use lib.IntN.{pos}
-use Rattle.record.specs.declared.Drive.{Drive}
-use Rattle.feeding.specs.Feeding.{Fed, lineDue, fedOf, textOf}
+use Rattle.drive_record.specs.declared.Drive.{Drive}
+use Rattle.feeding.specs.Feeding.{Fed, lineDue, fedOf, textFed}
 use Rattle.stream.specs.declared.Tally.{Tally}
 use Rattle.stream.specs.declared.Stream.{Stream}
 use Rattle.stream.specs.Program.{isRow, tallyStart, tallyOf, answerText, closingText}
@@ -21,7 +21,7 @@ abbrev pub rowsFed : Fed Tally → List ℕ → Fed Tally
 rowsFed = fedOf isRow tallyOf
 
 abbrev pub rowsText : Fed Tally → List ℕ → List ℕ
-rowsText = textOf isRow tallyOf answerText
+rowsText = textFed isRow tallyOf answerText
 
 -- what is written last
 abbrev pub lastText : Fed Tally → List ℕ

@@ -6,11 +6,11 @@ ghost use lib.Dec.{eqb};
 ghost use lib.ListN.{length};
 ghost use Rattle.sine.specs.Sine.{sineTable};
 ghost use Rattle.text.specs.Decimal.{written};
-ghost use Rattle.record.specs.Record.{sound as soundOf};
+ghost use Rattle.drive_record.specs.Record.{sound as soundOf};
 ghost use Rattle.feeding.specs.Lines.{oneMore};
 ghost use Rattle.stream.specs.Program.{headerText, tallyOf, answerText, totalsText};
 ghost use Rattle.stream.specs.Streaming.{asFed, streamStart, rowsFed, rowsText, lastText};
-use record::Drive;
+use drive_record::Drive;
 use text::Line;
 
 // What goes from one row to the next: the drive, how many rows came, the accepted steps and the clipped ones among them.
@@ -62,7 +62,7 @@ fn row_told(t: Tally, row: [i32; 3], table: &sine::Table, out: &mut [u8], at: us
     ensures { λ r. ⌜ (r .tally ≡ tallyOf t row) × (r .place ≡ at + length (answerText t row))
         × (now (out .exit) ≡ written (now (out .entry)) at (answerText t row)) × (r .place ≤ at + 48) ⌝ }
 {
-    let s = drive::take(t.drive, row[0], row[1], row[2], table);
+    let s = drive::step_sound(t.drive, row[0], row[1], row[2], table);
     let answer = [s.pulses.a, s.pulses.b, s.pulses.c, s.number];
     let place = text::put_line(&answer, 4, out, at);
     let accepted = fixed::within(0, 0, s.number);

@@ -2,7 +2,7 @@
 -- Assumes nothing.
 use mathlib.Core.Path.{_≡_}
 use mathlib.Core.Bool.{true}
-use Rattle.record.specs.Record.{sound, broken}
+use Rattle.drive_record.specs.Record.{sound, broken}
 use Rattle.fixed.proofs.Asked.{no, yes}
 use Rattle.drive.specs.Calls.{cleared}
 use Rattle.drive.proofs.clear.Statement.{statement}

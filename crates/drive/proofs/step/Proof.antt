@@ -3,8 +3,8 @@
 use mathlib.Core.Path.{_≡_}
 use mathlib.Core.Bool.{true}
 use mir.Facts.{toZ-ofZ}
-use Rattle.record.specs.Record.{sound, broken}
-use Rattle.drive.specs.Calls.{taken, stepped}
+use Rattle.drive_record.specs.Record.{sound, broken}
+use Rattle.drive.specs.Calls.{steppedSound, stepped}
 use Rattle.fixed.proofs.Asked.{no, yes}
 use Rattle.drive.proofs.step.Statement.{statement}
 use Rattle.drive.proofs.step.Tie as tie
@@ -17,14 +17,14 @@ is-sound : (c : tie.Else1) → sound (c .before .before .args .d) ≡ true
 is-sound c = yes (c .before .sound .ensures) (c .if1 .left)
 
 returns-2 : tie.Need-returns-2
-unfolding stepped taken broken
+unfolding stepped steppedSound broken
 returns-2 c =
     let e = c .before .before .before in
     let f = e .before .before .fits in
-    simp (c .take .ensures, toZ-ofZ (f .ia), toZ-ofZ (f .ib), toZ-ofZ (f .count), is-sound e)
+    simp (c .step-sound .ensures, toZ-ofZ (f .ia), toZ-ofZ (f .ib), toZ-ofZ (f .count), is-sound e)
 
-take-requires : tie.Need-take-requires
-take-requires c κs = (is-sound (c .before .before), c .before .table .ensures)
+step-sound-requires : tie.Need-step-sound-requires
+step-sound-requires c κs = (is-sound (c .before .before), c .before .table .ensures)
 
 pub step-spec : {M : Type 1} → statement M
-step-spec = tie.close (tie.spec (λ c κs. tt) (λ c κs. tt) returns (λ c κs. tt) take-requires returns-2)
+step-spec = tie.close (tie.spec (λ c κs. tt) (λ c κs. tt) returns (λ c κs. tt) step-sound-requires returns-2)

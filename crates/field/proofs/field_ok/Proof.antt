@@ -1,6 +1,6 @@
 -- `field::field_ok` meets its contract.
 -- Assumes nothing.
-use Rattle.field.proofs.FieldTold.{told}
+use Rattle.field.proofs.FieldFromBits.{from-bits}
 use Rattle.fixed.specs.Fixed.{inside as isInside}
 use Rattle.field.specs.Field.{fieldOk}
 use Rattle.field.proofs.field_ok.Statement.{statement}
@@ -11,7 +11,7 @@ unfolding fieldOk isInside
 returns c =
     let k = c .before .before in
     let s = k .before .before in
-    let b = told (s .args .f) _ (s .good .0 .1 .1) in
+    let b = from-bits (s .args .f) _ (s .good .0 .1 .1) in
     simp (k .within .ensures, c .within2 .ensures, b .flux, b .angle)
 
 pub field-ok-spec : {M : Type 1} → statement M

@@ -8,10 +8,10 @@ use mir.Syntax.{w32}
 use Rattle.fixed.proofs.Equal.{ap₃}
 use Rattle.fixed.proofs.Reading.{Reads, m32, sized, result, stored, bound}
 use Rattle.modulation.specs.declared.Entries.{Entries}
-use Rattle.modulation.specs.declared.Row.{Row}
+use Rattle.modulation.specs.declared.Sector.{Sector}
 use Rattle.modulation.specs.declared.Times.{Times}
-use Rattle.modulation.specs.Modulation.{entriesOf, numberOf, rowAt, rowOf, timeOf, clippedTimes, timesOf, placed, modulated, longest, entryEnd, Period, Small, Room}
-use Rattle.modulation.proofs.Sizes.{Sized, entries-small, row-sized, time-size}
+use Rattle.modulation.specs.Modulation.{entriesOf, sectorNumber, sectorAt, sectorOf, timeOf, clippedTimes, timesOf, placed, modulated, longest, entryEnd, Period, Small, Room}
+use Rattle.modulation.proofs.Sizes.{Sized, entries-small, sector-sized, time-size}
 use Rattle.modulation.proofs.Compares.{times-room}
 use Rattle.modulation.proofs.modulate.Statement.{statement}
 use Rattle.modulation.proofs.modulate.Tie as tie
@@ -32,40 +32,40 @@ entries-is c =
     c .entries-of .ensures ∙ ap₂ entriesOf (sized (s .fits .va) (s .pre .1) .is) (sized (s .fits .vb) (s .pre .2) .is)
 
 -- ════ the row
-abbrev rowFor : tie.Start → Row
-rowFor s = rowOf (entriesAt s)
+abbrev sectorFor : tie.Start → Sector
+sectorFor s = sectorOf (entriesAt s)
 
-sized-at : (s : tie.Start) → Sized (rowFor s)
-unfolding rowOf
-sized-at s = row-sized (numberOf (entriesAt s)) (entriesAt s) (small-at s)
+sized-at : (s : tie.Start) → Sized (sectorFor s)
+unfolding sectorOf
+sized-at s = sector-sized (sectorNumber (entriesAt s)) (entriesAt s) (small-at s)
 
-row-is : (c : tie.After-row-at) → c .row-at .result ≡ rowFor (c .before .before .before)
-unfolding rowOf
-row-is c =
+sector-is : (c : tie.After-sector-at) → c .sector-at .result ≡ sectorFor (c .before .before .before)
+unfolding sectorOf
+sector-is c =
     let e = c .before .before in
-    c .row-at .ensures
-    ∙ ap (λ (n : ℕ). rowAt n (e .entries-of .result)) (c .before .number .ensures)
-    ∙ ap (λ (e : Entries). rowAt (numberOf e) e) (entries-is e)
+    c .sector-at .ensures
+    ∙ ap (λ (n : ℕ). sectorAt n (e .entries-of .result)) (c .before .sector-number .ensures)
+    ∙ ap (λ (e : Entries). sectorAt (sectorNumber e) e) (entries-is e)
 
-one : (c : tie.After-row-at) → Reads (m32 (c .row-at .result .t1)) (rowFor (c .before .before .before) .t1) entryEnd
-one c = stored w32 (result (ap (λ (r : Row). r .t1) (row-is c)) (sized-at (c .before .before .before) .one)) tt
+one : (c : tie.After-sector-at) → Reads (m32 (c .sector-at .result .t1)) (sectorFor (c .before .before .before) .t1) entryEnd
+one c = stored w32 (result (ap (λ (r : Sector). r .t1) (sector-is c)) (sized-at (c .before .before .before) .one)) tt
 
-two : (c : tie.After-row-at) → Reads (m32 (c .row-at .result .t2)) (rowFor (c .before .before .before) .t2) entryEnd
-two c = stored w32 (result (ap (λ (r : Row). r .t2) (row-is c)) (sized-at (c .before .before .before) .two)) tt
+two : (c : tie.After-sector-at) → Reads (m32 (c .sector-at .result .t2)) (sectorFor (c .before .before .before) .t2) entryEnd
+two c = stored w32 (result (ap (λ (r : Sector). r .t2) (sector-is c)) (sized-at (c .before .before .before) .two)) tt
 
 -- ════ the times
 abbrev oneFor : tie.Start → ℤ
-oneFor s = timeOf (s .args .t) (rowFor s .t1)
+oneFor s = timeOf (s .args .t) (sectorFor s .t1)
 
 abbrev twoFor : tie.Start → ℤ
-twoFor s = timeOf (s .args .t) (rowFor s .t2)
+twoFor s = timeOf (s .args .t) (sectorFor s .t2)
 
 time-one : (c : tie.After-time) → Reads (m32 (c .time .result)) (oneFor (c .before .before .before .before .before)) 100000
 time-one c =
     let r = c .before .before in
     let s = r .before .before .before in
     stored w32
-    (result (c .time .ensures ∙ ap₂ timeOf (period s .is) (one r .is)) (time-size (s .args .t) (rowFor s .t1) (s .pre .0 .size) (sized-at s .one)))
+    (result (c .time .ensures ∙ ap₂ timeOf (period s .is) (one r .is)) (time-size (s .args .t) (sectorFor s .t1) (s .pre .0 .size) (sized-at s .one)))
     tt
 
 time-two : (c : tie.After-time2) → Reads (m32 (c .time2 .result)) (twoFor (c .before .before .before .before .before .before .before)) 100000
@@ -73,11 +73,11 @@ time-two c =
     let r = c .before .before .before .before in
     let s = r .before .before .before in
     stored w32
-    (result (c .time2 .ensures ∙ ap₂ timeOf (period s .is) (two r .is)) (time-size (s .args .t) (rowFor s .t2) (s .pre .0 .size) (sized-at s .two)))
+    (result (c .time2 .ensures ∙ ap₂ timeOf (period s .is) (two r .is)) (time-size (s .args .t) (sectorFor s .t2) (s .pre .0 .size) (sized-at s .two)))
     tt
 
 abbrev timesFor : tie.Start → Times
-timesFor s = timesOf (s .args .t) (rowFor s)
+timesFor s = timesOf (s .args .t) (sectorFor s)
 
 times-is : (c : tie.After-clip) → c .clip .result ≡ timesFor (c .before .before .before .before .before .before .before .before)
 unfolding timesOf
@@ -93,7 +93,7 @@ returns c =
     let k = c .before in
     let r = k .before .before .before .before .before in
     let s = r .before .before .before in
-    c .place .ensures ∙ ap₃ placed (period s .is) (row-is r) (times-is k)
+    c .place .ensures ∙ ap₃ placed (period s .is) (sector-is r) (times-is k)
 
 -- ════ what the calls require
 small : (c : tie.After-entries-of) → Small (c .entries-of .result)

@@ -4,7 +4,7 @@ use mathlib.Core.Path.{_≡_, _∙_, ap, sym}
 use lib.IntN.{pos}
 use Rattle.fixed.specs.Fixed.{within}
 use Rattle.rows.specs.Rows.{isAccepted}
-use Rattle.stages.proofs.SteppedTold.{told}
+use Rattle.stages.proofs.SteppedFromBits.{from-bits}
 use Rattle.rows.proofs.accepted_in.Statement.{statement}
 use Rattle.rows.proofs.accepted_in.Tie as tie
 
@@ -13,7 +13,7 @@ asked : (c : tie.After-within) → isAccepted (c .before .before .args .s) ≡ c
 unfolding isAccepted
 asked c =
     let s = c .before .before in
-    sym (c .within .ensures ∙ ap (within (pos 0) (pos 0)) (told (s .args .s) _ (s .good .0 .1 .1) .number))
+    sym (c .within .ensures ∙ ap (within (pos 0) (pos 0)) (from-bits (s .args .s) _ (s .good .0 .1 .1) .number))
 
 returns : tie.Need-returns
 returns c = simp (asked (c .before) ∙ c .if1 .taken)

@@ -5,7 +5,7 @@ use mathlib.Core.Bool.{Bool, _&&_}
 use lib.IntN.{pos}
 use Rattle.fixed.specs.Fixed.{within}
 use Rattle.rows.specs.Rows.{isAccepted, isClipped}
-use Rattle.stages.proofs.SteppedTold.{told}
+use Rattle.stages.proofs.SteppedFromBits.{from-bits}
 use Rattle.rows.proofs.clipped_in.Statement.{statement}
 use Rattle.rows.proofs.clipped_in.Tie as tie
 
@@ -14,7 +14,7 @@ asked : (c : tie.After-within) → isClipped (c .before .before .args .s) ≡ (c
 unfolding isAccepted isClipped
 asked c =
     let s = c .before .before in
-    let e = c .within .ensures ∙ ap (within (pos 0) (pos 0)) (told (s .args .s) _ (s .good .0 .1 .1) .number) in
+    let e = c .within .ensures ∙ ap (within (pos 0) (pos 0)) (from-bits (s .args .s) _ (s .good .0 .1 .1) .number) in
     ap (λ (b : Bool). b && s .args .s .pulses .clipped) (sym e)
 
 returns : tie.Need-returns

@@ -1,4 +1,4 @@
--- `rows::row_step` meets its contract: on a sound record a step is what `drive::take` does.
+-- `rows::row_step` meets its contract: on a sound record a step is what `drive::step_sound` does.
 -- Assumes nothing.
 use borrow.Author.Needs.{needs}
 use mathlib.Core.Path.{_∙_, sym}
@@ -8,9 +8,9 @@ use lib.ListN.{getD}
 use denote.Ref.{now}
 use Rattle.fixed.proofs.Equal.{ap₃}
 use Rattle.fixed.proofs.Reading.{readOk32}
-use Rattle.record.proofs.Ranges.{sound→}
-use Rattle.drive.specs.Calls.{taken}
-use Rattle.drive.proofs.Kept.{step-taken}
+use Rattle.drive_record.proofs.Ranges.{sound→}
+use Rattle.drive.specs.Calls.{steppedSound}
+use Rattle.drive.proofs.Kept.{step-is-sound}
 use Rattle.rows.specs.Rows.{rowStepped}
 use Rattle.rows.proofs.row_step.Statement.{statement}
 use Rattle.rows.proofs.row_step.Tie as tie
@@ -23,12 +23,12 @@ returns c =
     let d = s .args .d in
     let l = now (s .args .samples) in
     let i = s .args .i in
-    c .take .ensures
-    ∙ ap₃ (taken d) (readOk32 (getD l (3 * i) (pos 0)) (k .before .before .ia .given)) (readOk32 (getD l (3 * i + 1) (pos 0)) (k .before .ib .given)) (readOk32 (getD l (3 * i + 2) (pos 0)) (k .count .given))
-    ∙ sym (step-taken d _ _ _ (sound→ d (s .pre .0)))
+    c .step-sound .ensures
+    ∙ ap₃ (steppedSound d) (readOk32 (getD l (3 * i) (pos 0)) (k .before .before .ia .given)) (readOk32 (getD l (3 * i + 1) (pos 0)) (k .before .ib .given)) (readOk32 (getD l (3 * i + 2) (pos 0)) (k .count .given))
+    ∙ sym (step-is-sound d _ _ _ (sound→ d (s .pre .0)))
 
-take-requires : tie.Need-take-requires
-take-requires c κs = let s = c .before .before .before in (s .pre .0, s .pre .1)
+step-sound-requires : tie.Need-step-sound-requires
+step-sound-requires c κs = let s = c .before .before .before in (s .pre .0, s .pre .1)
 
 -- what `search` closes is that the three places are in the samples
 pub row-step-spec : {M : Type 1} → statement M
@@ -46,5 +46,5 @@ row-step-spec =
     (λ c. search needs)
     (λ c. search needs)
     (λ c. search needs)
-    take-requires
+    step-sound-requires
     returns)

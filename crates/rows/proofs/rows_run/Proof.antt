@@ -4,7 +4,7 @@ use mathlib.Core.Path.{_≡_}
 use Prim.Native.Nat.{_-_}
 use native.Mathlib.Omega.{arith}
 use denote.Ref.{now}
-use Rattle.record.proofs.Ranges.{sound→, sound←}
+use Rattle.drive_record.proofs.Ranges.{sound→, sound←}
 use Rattle.rows.proofs.Runs.{Upto, start, more, one-most}
 use Rattle.rows.specs.Rows.{isAccepted, isClipped}
 use Rattle.rows.proofs.rows_run.Statement.{statement}

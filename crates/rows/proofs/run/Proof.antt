@@ -6,10 +6,10 @@ use mathlib.Core.Bool.{true, false, not}
 use native.Mathlib.Omega.{arith}
 use lib.ListN.{length}
 use denote.Ref.{now}
-use Rattle.record.specs.Record.{sound, broken}
+use Rattle.drive_record.specs.Record.{sound, broken}
 use Rattle.fixed.proofs.Asked.{no, yes}
 use Rattle.settings.proofs.Ranges.{checked-accepted}
-use Rattle.record.proofs.Ranges.{sound-parts, words-broken}
+use Rattle.drive_record.proofs.Ranges.{sound-parts, words-broken}
 use Rattle.drive.proofs.CallLaws.{refused-broken}
 use Rattle.rows.specs.Rows.{rowsFit}
 use Rattle.rows.proofs.Outcomes.{room, run-14, run-9, run-0}
@@ -21,14 +21,14 @@ returns c =
     let k = c .before .before .before in
     let s = k .before .args in
     let r = run-14 (s .d) (now (s .samples)) (now (s .out)) (refused-broken _ _ (sym (k .check .ensures) ∙ c .before .enum-told2 .given .1)) in
-    rw (r .0, r .1) (c .none .ensures, refl)
+    rw (r .0, r .1) (c .no-rows .ensures, refl)
 
 returns-2 : tie.Need-returns-2
 returns-2 c =
     let k = c .before .before in
     let s = k .before .before .before .before .args in
     let r = run-14 (s .d) (now (s .samples)) (now (s .out)) (words-broken _ (no (k .words-ok .ensures) (c .before .if1 .taken))) in
-    rw (r .0, r .1) (c .none2 .ensures, refl)
+    rw (r .0, r .1) (c .no-rows2 .ensures, refl)
 
 -- past the tests the record is sound
 is-sound : (c : tie.Else1) → sound (c .before .before .before .before .before .args .d) ≡ true
@@ -45,7 +45,7 @@ returns-3 c =
     let k = c .before .before .before in
     let s = k .before .before .before .before .before .args in
     let r = run-9 (s .d) (now (s .samples)) (now (s .out)) (not-broken k) (no (c .before .before .rows-fit .ensures) (c .before .if2 .taken)) in
-    rw (r .0, r .1) (c .none3 .ensures, refl)
+    rw (r .0, r .1) (c .no-rows3 .ensures, refl)
 
 -- and there is room for its rows
 fit : (c : tie.Else2) → rowsFit (length (now (c .before .before .before .before .before .before .before .args .samples))) (length (now (c .before .before .before .before .before .before .before .args .out))) ≡ true

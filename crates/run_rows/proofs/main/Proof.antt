@@ -3,7 +3,7 @@
 use borrow.Author.Needs.{needs}
 use mathlib.Core.Path.{sym, _∙_, ap}
 use native.Mathlib.Omega.{arith}
-use Rattle.record.specs.Record.{sound}
+use Rattle.drive_record.specs.Record.{sound}
 use Rattle.drive.proofs.Kept.{checked-sound}
 use Rattle.feeding.specs.Feeding.{Fed}
 use Rattle.stream.specs.declared.Tally.{Tally}

@@ -4,7 +4,7 @@ use mathlib.Core.Path.{_≡_, refl, _∙_}
 use mathlib.Core.Bool.{true}
 use native.Mathlib.Omega.{arith}
 use lib.ListN.{length}
-use Rattle.record.specs.Record.{sound}
+use Rattle.drive_record.specs.Record.{sound}
 use Rattle.run_rows.proofs.read_through.Statement.{statement}
 use Rattle.run_rows.proofs.read_through.Tie as tie
 

@@ -1,7 +1,7 @@
 -- `settings::gains_tied` meets its contract.
 -- Assumes nothing.
 use Rattle.settings.specs.Settings.{gainsTied}
-use Rattle.settings.proofs.SettingsTold.{told}
+use Rattle.settings.proofs.SettingsFromBits.{from-bits}
 use Rattle.settings.proofs.gains_tied.Statement.{statement}
 use Rattle.settings.proofs.gains_tied.Tie as tie
 
@@ -10,7 +10,7 @@ unfolding gainsTied
 returns c =
     let k = c .before .before .before .before in
     let s = k .before .before .before .before in
-    let b = told (s .args .s) _ (s .good .0 .1 .1) in
+    let b = from-bits (s .args .s) _ (s .good .0 .1 .1) in
     simp (k .tied .ensures, c .tied2 .ensures, b .skp, b .skcor, b .ski, b .ckp, b .ckcor, b .cki)
 
 pub gains-tied-spec : {M : Type 1} → statement M

@@ -1,7 +1,7 @@
 -- `settings::limits_ok` meets its contract.
 -- Assumes nothing.
 use Rattle.settings.specs.Settings.{limitsOk}
-use Rattle.settings.proofs.SettingsTold.{told}
+use Rattle.settings.proofs.SettingsFromBits.{from-bits}
 use Rattle.settings.proofs.limits_ok.Statement.{statement}
 use Rattle.settings.proofs.limits_ok.Tie as tie
 
@@ -10,7 +10,7 @@ unfolding limitsOk
 returns c =
     let k = c .before .before in
     let s = k .before .before in
-    let b = told (s .args .s) _ (s .good .0 .1 .1) in
+    let b = from-bits (s .args .s) _ (s .good .0 .1 .1) in
     simp (k .within .ensures, c .within2 .ensures, b .v, b .q)
 
 pub limits-ok-spec : {M : Type 1} → statement M

@@ -13,7 +13,7 @@ use Rattle.fixed.specs.Fixed.{modulo}
 use Rattle.fixed.proofs.Parts.{diffs, order}
 use Rattle.fixed.proofs.DownLaws.{modulo-unique}
 use Rattle.fixed.proofs.Reading.{m32, answer, unsigned}
-use Rattle.shaft.specs.Shaft.{signed as signedOf, movement as movementOf, Count}
+use Rattle.shaft.specs.Shaft.{signed16 as signedOf, movement as movementOf, Count}
 use Rattle.shaft.proofs.Counts.{count-lo, count-reads}
 use Rattle.shaft.proofs.movement.Statement.{statement}
 use Rattle.shaft.proofs.movement.Tie as tie

@@ -4,15 +4,15 @@ use Prim.Native.Nat.{_*_, _^_}
 use lib.IntN.{pos, _*ℤ_}
 use mir.Syntax.{w64}
 use Rattle.fixed.proofs.Reading.{Reads, m64, lit, multiplied, stored, bound}
-use Rattle.shaft.proofs.ShaftTold.{told, Back}
+use Rattle.shaft.proofs.ShaftFromBits.{from-bits, FromBits}
 use Rattle.fixed.specs.Fixed.{inside as isInside}
 use Rattle.shaft.specs.Shaft.{farthest, shaftOk}
 use Rattle.fixed.proofs.Asked.{field}
 use Rattle.shaft.proofs.shaft_ok.Statement.{statement}
 use Rattle.shaft.proofs.shaft_ok.Tie as tie
 
-back : (s : tie.Start) → Back (s .args .s)
-back s = told (s .args .s) _ (s .good .0 .1 .1)
+back : (s : tie.Start) → FromBits (s .args .s)
+back s = from-bits (s .args .s) _ (s .good .0 .1 .1)
 
 -- the movement that the steps allow
 most : (c : tie.After-times) → Reads (m64 (c .times .result)) (pos farthest *ℤ c .before .before .before .before .before .before .args .s .steps) (farthest * 2 ^ 31)

@@ -10,7 +10,7 @@ use lib.IntN.{pos, _-ℤ_}
 use mir.Syntax.{w16, w32}
 use mir.Val.{Fits, toZ}
 use Rattle.fixed.proofs.Reading.{Reads, local, lit, minus, stored, fits}
-use Rattle.shaft.specs.Shaft.{signed as signedOf}
+use Rattle.shaft.specs.Shaft.{signed16 as signedOf}
 use Rattle.shaft.proofs.signed.Statement.{statement}
 use Rattle.shaft.proofs.signed.Tie as tie
 

@@ -10,16 +10,16 @@ use Rattle.fixed.proofs.Reading.{Reads, m32, word, result, stored, bound}
 use Rattle.sine.specs.Sine.{sineAt, cosineAt, Angle}
 use Rattle.sine.proofs.Rule.{sine-in-is, cosine-in-is, sine-size, cosine-size}
 use Rattle.shaft.specs.Shaft.{Count}
-use Rattle.stages.specs.Step.{turned, currents, pulsed, driven, advanced, Turning}
-use Rattle.record.proofs.Ranges.{Sound, sound→, sound←}
+use Rattle.stages.specs.Step.{rules1And2, currents, rules6To9, rules3To9, advanced, SineCosineSized}
+use Rattle.drive_record.proofs.Ranges.{Sound, sound→, sound←}
 use Rattle.stages.proofs.Sizes as size
-use Rattle.stages.proofs.Kept.{turned-sound, currents-size, turning}
-use Rattle.record.proofs.DriveTold.{Back, told}
+use Rattle.stages.proofs.Kept.{rules-1-and-2-sound, currents-size, sine-cosine-sized}
+use Rattle.drive_record.proofs.DriveFromBits.{FromBits, from-bits}
 use Rattle.stages.proofs.advance.Statement.{statement}
 use Rattle.stages.proofs.advance.Tie as tie
 
-back : (s : tie.Start) → Back (s .args .d)
-back s = told (s .args .d) _ (s .good .0 .1 .1)
+back : (s : tie.Start) → FromBits (s .args .d)
+back s = from-bits (s .args .d) _ (s .good .0 .1 .1)
 
 is-sound : (s : tie.Start) → Sound (s .args .d)
 is-sound s = sound→ (s .args .d) (s .pre .0)
@@ -34,10 +34,10 @@ cos c =
     let s = c .before .before .before in
     stored w32 (result (c .cosine-in .ensures ∙ cosine-in-is _ _ (s .pre .2) ∙ ap cosineAt (back s .field .angle)) (cosine-size (s .args .d .field .angle))) tt
 
-turned-is : (c : tie.After-turned) → c .turned .result ≡ turned (c .before .before .before .before .args .d) (c .before .before .before .before .args .count)
-turned-is c =
+after-rules-1-and-2 : (c : tie.After-rules-1-and-2) → c .rules-1-and-2 .result ≡ rules1And2 (c .before .before .before .before .args .d) (c .before .before .before .before .args .count)
+after-rules-1-and-2 c =
     let s = c .before .before .before .before in
-    c .turned .ensures ∙ ap (turned (s .args .d)) (word (s .fits .count) .is)
+    c .rules-1-and-2 .ensures ∙ ap (rules1And2 (s .args .d)) (word (s .fits .count) .is)
 
 currents-are : (c : tie.After-currents) → c .currents .result ≡ currents (c .before .before .before .before .before .args .ia) (c .before .before .before .before .before .args .ib) (sineAt (c .before .before .before .before .before .args .d .field .angle)) (cosineAt (c .before .before .before .before .before .args .d .field .angle))
 currents-are c =
@@ -46,11 +46,11 @@ currents-are c =
     c .currents .ensures ∙ ap₄ currents (word (s .fits .ia) .is) (word (s .fits .ib) .is) (sin (k .before) .is) (cos k .is)
 
 returns : tie.Need-returns
-unfolding advanced driven
+unfolding advanced rules3To9
 returns c =
     let j = c .before in
     let k = j .before .before in
-    c .pulsed .ensures ∙ ap₄ pulsed (turned-is (j .before)) (currents-are j) (sin (k .before) .is) (cos k .is)
+    c .rules-6-to-9 .ensures ∙ ap₄ rules6To9 (after-rules-1-and-2 (j .before)) (currents-are j) (sin (k .before) .is) (cos k .is)
 
 angle : (s : tie.Start) → Angle (m32 (s .args .d .field .angle))
 angle s =
@@ -59,11 +59,11 @@ angle s =
     rw (back s .field .angle) (record { lo = in-lo angles a h; hi = in-hi angles a h })
 
 -- what the stages ask of sine and cosine
-turns : (c : tie.After-cosine-in) → Turning (m32 (c .before .sine-in .result)) (m32 (c .cosine-in .result))
+turns : (c : tie.After-cosine-in) → SineCosineSized (m32 (c .before .sine-in .result)) (m32 (c .cosine-in .result))
 turns c = record { sin-size = bound (sin (c .before)) tt; cos-size = bound (cos c) tt }
 
-turned-requires : tie.Need-turned-requires
-turned-requires c κs =
+rules-1-and-2-requires : tie.Need-rules-1-and-2-requires
+rules-1-and-2-requires c κs =
     let s = c .before .before .before in
     (s .pre .0, subst (λ (z : ℤ). Count z) (sym (word (s .fits .count) .is)) (size.samples→ (s .args .ia) (s .args .ib) (s .args .count) (s .pre .1) .3))
 
@@ -72,16 +72,16 @@ currents-requires c κs =
     let s = c .before .before .before .before in
     (rw (word (s .fits .ia) .is, word (s .fits .ib) .is) (size.samples (s .args .ia) (s .args .ib) (s .args .count) (s .pre .1)), turns (c .before))
 
-pulsed-requires : tie.Need-pulsed-requires
-pulsed-requires c κs =
+rules-6-to-9-requires : tie.Need-rules-6-to-9-requires
+rules-6-to-9-requires c κs =
     let k = c .before .before in
     let s = k .before .before .before in
     let d = s .args .d in
     let a = d .field .angle in
     let h = size.samples→ (s .args .ia) (s .args .ib) (s .args .count) (s .pre .1) in
-    let z = currents-size (s .args .ia) (s .args .ib) (sineAt a) (cosineAt a) (size.samples (s .args .ia) (s .args .ib) (s .args .count) (s .pre .1)) (turning a) in (
-      rw (turned-is (c .before), currents-are c) (record {
-        is-sound = sound← (turned d (s .args .count)) (turned-sound d (s .args .count) (is-sound s) (h .3));
+    let z = currents-size (s .args .ia) (s .args .ib) (sineAt a) (cosineAt a) (size.samples (s .args .ia) (s .args .ib) (s .args .count) (s .pre .1)) (sine-cosine-sized a) in (
+      rw (after-rules-1-and-2 (c .before), currents-are c) (record {
+        is-sound = sound← (rules1And2 d (s .args .count)) (rules-1-and-2-sound d (s .args .count) (is-sound s) (h .3));
         d-size = z .0;
         q-size = z .1;
       }),
@@ -91,4 +91,4 @@ pulsed-requires c κs =
 pub advance-spec : {M : Type 1} → statement M
 advance-spec =
     tie.close
-    (tie.spec (λ c κs. angle (c .before)) (λ c κs. angle (c .before .before)) turned-requires currents-requires pulsed-requires returns)
+    (tie.spec (λ c κs. angle (c .before)) (λ c κs. angle (c .before .before)) rules-1-and-2-requires currents-requires rules-6-to-9-requires returns)

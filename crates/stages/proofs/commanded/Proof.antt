@@ -9,17 +9,17 @@ use Rattle.fixed.proofs.Equal.{ap₄}
 use Rattle.frames.specs.Frames.{rotorEnd}
 use Rattle.regulator.specs.Regulator.{regulated}
 use Rattle.fixed.proofs.Reading.{Reads, m32, local, stored, result, bound}
-use Rattle.record.specs.declared.Command.{Command}
+use Rattle.drive_record.specs.declared.Command.{Command}
 use Rattle.stages.specs.Step.{rampedBy, speedRegulated, withCommand, commanded}
-use Rattle.record.proofs.Ranges.{sound→}
+use Rattle.drive_record.proofs.Ranges.{sound→}
 use Rattle.stages.proofs.Sizes as size
 use Rattle.stages.proofs.Kept.{ramped-size}
-use Rattle.stages.proofs.Regulating.{erring, read-sized, speed-sized}
-use Rattle.record.proofs.DriveTold.{told}
+use Rattle.stages.proofs.Regulating.{error-sized, read-sized, speed-sized}
+use Rattle.drive_record.proofs.DriveFromBits.{from-bits}
 use Rattle.stages.proofs.commanded.Statement.{statement}
 use Rattle.stages.proofs.commanded.Tie as tie
 use Rattle.shaft.specs.Shaft.{fastest}
-use Rattle.record.specs.Record.{targetEnd}
+use Rattle.drive_record.specs.Record.{targetEnd}
 
 speed : (s : tie.Start) → Reads (m32 (s .args .s .speed)) (s .args .s .speed) fastest
 speed s = local w32 (s .pre .1) tt
@@ -39,7 +39,7 @@ returns c =
     let g = j .before .before .before .before .before in
     let k = g .before in
     let s = k .before .before in
-    let b = told (s .args .d) _ (s .good .0 .1 .1) in
+    let b = from-bits (s .args .d) _ (s .good .0 .1 .1) in
     c .with-command .ensures
     ∙ ap₂ (withCommand (s .args .d) (s .args .s)) (ramped k)
     (j .steered .ensures ∙ ap₄ regulated (b .integrals .speed) (ap₂ _-ℤ_ (reference k .is) (speed s .is)) (g .speed-gains .ensures) (b .settings .q))
@@ -54,8 +54,8 @@ steered-requires c κs =
     let s = k .before .before in
     let d = s .args .d in
     let h = sound→ d (s .pre .0) in
-    let b = told d _ (s .good .0 .1 .1) in
-    let e = erring (d .integrals .speed) (rampedBy d (s .args .s .speed) .reference) (s .args .s .speed) (size.speed-integral-size d h) (ramped-size d (s .args .s .speed) h) (le-trans (s .pre .1) (leb→le fastest rotorEnd tt)) in (
+    let b = from-bits d _ (s .good .0 .1 .1) in
+    let e = error-sized (d .integrals .speed) (rampedBy d (s .args .s .speed) .reference) (s .args .s .speed) (size.speed-integral-size d h) (ramped-size d (s .args .s .speed) h) (le-trans (s .pre .1) (leb→le fastest rotorEnd tt)) in (
       record {
         x-size = bound (local w32 {x = d .integrals .speed} (size.speed-integral-size d h) tt) tt;
         wanted-size = bound (reference k) tt;

@@ -4,11 +4,11 @@ use mir.Syntax.{w32}
 use Rattle.fixed.proofs.Reading.{local, bound}
 use Rattle.shaft.proofs.ShaftRanges.{speed-size}
 use Rattle.field.proofs.FieldRanges.{flux-size, angle-size}
-use Rattle.frames.proofs.RotorTold.{told as rotor-told}
+use Rattle.frames.proofs.RotorFromBits.{from-bits as rotor-told}
 use Rattle.stages.specs.Step.{fieldAfter}
-use Rattle.record.proofs.Ranges.{sound→}
+use Rattle.drive_record.proofs.Ranges.{sound→}
 use Rattle.stages.proofs.Sizes as size
-use Rattle.record.proofs.DriveTold.{told}
+use Rattle.drive_record.proofs.DriveFromBits.{from-bits}
 use Rattle.stages.proofs.field_after.Statement.{statement}
 use Rattle.stages.proofs.field_after.Tie as tie
 
@@ -16,7 +16,7 @@ returns : tie.Need-returns
 unfolding fieldAfter
 returns c =
     let s = c .before .before .before .before .before .before .before .before in
-    let b = told (s .args .d) _ (s .good .0 .1 .1) in
+    let b = from-bits (s .args .d) _ (s .good .0 .1 .1) in
     let r = rotor-told (s .args .i) _ (s .good .1 .0 .1 .1) in
     simp (c .followed .ensures, b .settings .kr, b .settings .kt, b .settings .kth, b .shaft .speed, r .d, r .q)
 

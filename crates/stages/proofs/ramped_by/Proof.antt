@@ -7,9 +7,9 @@ use Rattle.fixed.proofs.Equal.{ap₃}
 use Rattle.shaft.specs.Shaft.{rampedTo, weakened}
 use Rattle.fixed.proofs.Reading.{word, answer, sized, local, bound}
 use Rattle.stages.specs.Step.{rampedBy}
-use Rattle.record.proofs.Ranges.{sound→}
+use Rattle.drive_record.proofs.Ranges.{sound→}
 use Rattle.stages.proofs.Sizes as size
-use Rattle.record.proofs.DriveTold.{told}
+use Rattle.drive_record.proofs.DriveFromBits.{from-bits}
 use Rattle.stages.proofs.ramped_by.Statement.{statement}
 use Rattle.stages.proofs.ramped_by.Tie as tie
 
@@ -19,7 +19,7 @@ returns c =
     let k = c .before in
     let j = k .before .before in
     let s = j .before .before .before .before in
-    let b = told (s .args .d) _ (s .good .0 .1 .1) in
+    let b = from-bits (s .args .d) _ (s .good .0 .1 .1) in
     ap₂ (λ (r f : ℤ). record { target = s .args .d .command .target; reference = r; torque = s .args .d .command .torque; flux = f })
     (answer w32 (j .ramped-to .ok) .is ∙ j .ramped-to .ensures ∙ ap₃ rampedTo (b .command .reference) (b .command .target) (b .settings .r))
     (answer w32 (k .weakened .ok) .is ∙ k .weakened .ensures ∙ ap₂ weakened (b .settings .f) (word (s .fits .n) .is))

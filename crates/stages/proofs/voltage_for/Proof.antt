@@ -7,18 +7,18 @@ use Rattle.fixed.proofs.Equal.{ap₄}
 use Rattle.fixed.proofs.Reading.{local, bound}
 use Rattle.regulator.specs.declared.Regulated.{Regulated}
 use Rattle.regulator.specs.Regulator.{regulated}
-use Rattle.regulator.proofs.RegulatedTold.{told as regulated-told}
-use Rattle.frames.proofs.RotorTold.{told as rotor-told}
+use Rattle.regulator.proofs.RegulatedFromBits.{from-bits as regulated-told}
+use Rattle.frames.proofs.RotorFromBits.{from-bits as rotor-told}
 use Rattle.stages.specs.Step.{currentRegulated, dRegulated, qRegulated, voltageOf, voltageFor}
-use Rattle.record.proofs.Ranges.{Sound, sound→}
+use Rattle.drive_record.proofs.Ranges.{Sound, sound→}
 use Rattle.stages.proofs.Sizes as size
-use Rattle.stages.proofs.Regulating.{erring, read-sized, current-sized}
-use Rattle.record.proofs.DriveTold.{Back, told}
+use Rattle.stages.proofs.Regulating.{error-sized, read-sized, current-sized}
+use Rattle.drive_record.proofs.DriveFromBits.{FromBits, from-bits}
 use Rattle.stages.proofs.voltage_for.Statement.{statement}
 use Rattle.stages.proofs.voltage_for.Tie as tie
 
-back : (s : tie.Start) → Back (s .args .d)
-back s = told (s .args .d) _ (s .good .0 .1 .1)
+back : (s : tie.Start) → FromBits (s .args .d)
+back s = from-bits (s .args .d) _ (s .good .0 .1 .1)
 
 is-sound : (s : tie.Start) → Sound (s .args .d)
 is-sound s = sound→ (s .args .d) (s .pre .is-sound)
@@ -63,7 +63,7 @@ steered-requires c κs =
     let h = is-sound s in
     let b = back s in
     let i = rotor-told (s .args .i) _ (s .good .1 .0 .1 .1) in
-    let e = erring (d .integrals .d) (d .command .flux) (s .args .i .d) (size.d-integral-size d h) (size.flux-reference-size d h) (s .pre .d-size) in (
+    let e = error-sized (d .integrals .d) (d .command .flux) (s .args .i .d) (size.d-integral-size d h) (size.flux-reference-size d h) (s .pre .d-size) in (
       record {
         x-size = bound (local w32 {x = d .integrals .d} (e .x-size) tt) tt;
         wanted-size = bound (local w32 {x = d .command .flux} (e .wanted-size) tt) tt;
@@ -81,7 +81,7 @@ steered-requires-2 c κs =
     let h = is-sound s in
     let b = back s in
     let i = rotor-told (s .args .i) _ (s .good .1 .0 .1 .1) in
-    let e = erring (d .integrals .q) (d .command .torque) (s .args .i .q) (size.q-integral-size d h) (size.torque-size d h) (s .pre .q-size) in (
+    let e = error-sized (d .integrals .q) (d .command .torque) (s .args .i .q) (size.q-integral-size d h) (size.torque-size d h) (s .pre .q-size) in (
       record {
         x-size = bound (local w32 {x = d .integrals .q} (e .x-size) tt) tt;
         wanted-size = bound (local w32 {x = d .command .torque} (e .wanted-size) tt) tt;

@@ -8,7 +8,7 @@ use borrow.Author.Needs.{length-unmapped}
 use borrow.Author.Tests.{not-true, not-false}
 use lib.ListN.{length}
 use denote.Ref.{now}
-use Rattle.record.proofs.Ranges.{sound→, sound←}
+use Rattle.drive_record.proofs.Ranges.{sound→, sound←}
 use Rattle.stream.proofs.Feeding.{Telling, telling-start, telling-row, telling-else, telling-past, telling-stopped}
 use Rattle.stream.proofs.fed.Statement.{statement}
 use Rattle.stream.proofs.fed.Tie as tie

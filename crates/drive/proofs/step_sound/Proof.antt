@@ -1,0 +1,47 @@
+-- `drive::step_sound` meets its contract.
+-- Assumes nothing.
+use mathlib.Core.Path.{_≡_, sym, _∙_}
+use mir.Facts.{toZ-ofZ}
+use Rattle.stages.specs.Step.{sampleOk}
+use Rattle.drive.specs.Calls.{steppedSound}
+use Rattle.drive_record.proofs.DriveFromBits.{from-bits}
+use Rattle.drive.proofs.step_sound.Statement.{statement}
+use Rattle.drive.proofs.step_sound.Tie as tie
+
+returns : tie.Need-returns
+unfolding steppedSound
+returns c =
+    let s = c .before .before .before in
+    let b = from-bits (s .args .d) _ (s .good .0 .1 .1) in
+    simp (c .refused .ensures, b .settings .t, c .before .before .if1 .taken)
+
+sample-is : (c : tie.After-sample-ok) → c .sample-ok .result ≡ sampleOk (c .before .before .args .ia) (c .before .before .args .ib) (c .before .before .args .count)
+sample-is c =
+    let f = c .before .before .fits in
+    simp (c .sample-ok .ensures, toZ-ofZ (f .ia), toZ-ofZ (f .ib), toZ-ofZ (f .count))
+
+returns-2 : tie.Need-returns-2
+unfolding steppedSound
+returns-2 c =
+    let k = c .before .before in
+    let f = k .before .before .fits in
+    simp (c .advance .ensures, toZ-ofZ (f .ia), toZ-ofZ (f .ib), toZ-ofZ (f .count), k .before .if1 .left, sym (sample-is k) ∙ c .before .if2 .taken)
+
+returns-3 : tie.Need-returns-3
+unfolding steppedSound
+returns-3 c =
+    let e = c .before .before .before in
+    let k = e .before in
+    let s = k .before .before in
+    let b = from-bits (s .args .d) _ (s .good .0 .1 .1) in
+    simp (c .refused2 .ensures, c .before .before .with-trip .ensures, b .settings .t, k .before .if1 .left, sym (sample-is k) ∙ e .if2 .left)
+
+advance-requires : tie.Need-advance-requires
+advance-requires c κs =
+    let s = c .before .before .before in
+    (s .pre .0, sym (c .before .sample-ok .ensures) ∙ c .if2 .taken, s .pre .1)
+
+pub step-sound-spec : {M : Type 1} → statement M
+step-sound-spec =
+    tie.close
+    (tie.spec (λ c κs. tt) returns (λ c κs. tt) advance-requires (λ c κs. tt) (λ c κs. tt) returns-2 returns-3)

@@ -1,0 +1,4 @@
+pub mod CommandFromBits
+pub mod IntegralsFromBits
+pub mod DriveFromBits
+pub mod Ranges

@@ -1,4 +1,0 @@
-pub mod CommandTold
-pub mod IntegralsTold
-pub mod DriveTold
-pub mod Ranges
