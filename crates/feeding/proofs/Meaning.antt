@@ -22,14 +22,14 @@ Room fits n = (zs : List ℤ) → fits zs ≡ true → length zs ≤ n
 
 module _ (fits : List ℤ → Bool) where
   -- what a reading tells
-  abbrev pub from-bits : Reading → Option (List ℤ)
-  from-bits r = cond (isGood fits r) (some (front r)) none
+  abbrev pub told : Reading → Option (List ℤ)
+  told r = cond (isGood fits r) (some (front r)) none
 
-  told-bad : (r : Reading) → r .line .bad ≡ true → from-bits r ≡ none
+  told-bad : (r : Reading) → r .line .bad ≡ true → told r ≡ none
   unfolding isGood
   told-bad r e = rw e refl
 
-  told-taken : (ns zs : List ℤ) (r : Reading) → Taken ns zs r → from-bits r ≡ ifFits fits (some zs)
+  told-taken : (ns zs : List ℤ) (r : Reading) → Taken ns zs r → told r ≡ ifFits fits (some zs)
   unfolding isGood ifFits
   told-taken ns zs r t = rw (t .good, first-numbers t) refl
 
@@ -37,11 +37,11 @@ module _ (fits : List ℤ → Bool) where
   unfolding ifFits
   told-long zs n room h = ⊎-elim (λ e. absurd (omega (arith, room zs e, h))) (λ e. rw e refl) (true-or-false (fits zs))
 
-  pub line-told : (bs : List ℕ) (ns : List ℤ) → Room fits (length ns) → from-bits (lineRead ns bs) ≡ goodIn fits bs
+  pub line-told : (bs : List ℕ) (ns : List ℤ) → Room fits (length ns) → told (lineRead ns bs) ≡ goodIn fits bs
   unfolding goodIn ifFits
   line-told bs ns room = by (lineOf bs) refl
     where
-      by : (o : Option (List ℤ)) → lineOf bs ≡ o → from-bits (lineRead ns bs) ≡ ifFits fits o
+      by : (o : Option (List ℤ)) → lineOf bs ≡ o → told (lineRead ns bs) ≡ ifFits fits o
       by none e = told-bad (lineRead ns bs) (refused bs ns e)
       by (some zs) e =
           ⊎-elim

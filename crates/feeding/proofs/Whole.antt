@@ -15,7 +15,7 @@ use Rattle.text.proofs.Choice.{true-or-false}
 use Rattle.feeding.specs.Lines.{linesOf, restOf, any, goodIn, goodThen, goodOf, badOr, badOf, afterAll, answersTo}
 use Rattle.feeding.specs.Feeding.{Fed, lineAt, lineDue, front, isGood, endFed, endText, byteFed, byteText, fedOf, textFed}
 use Rattle.feeding.proofs.Parts.{read-length}
-use Rattle.feeding.proofs.Meaning.{Room, from-bits, line-told}
+use Rattle.feeding.proofs.Meaning.{Room, told, line-told}
 use Rattle.feeding.proofs.Pieces.{stoppedAt, end-good, end-bad, text-good, text-bad, fed-stopped, text-stopped}
 
 any-more : (p : List ℕ) (b : ℕ) → any (p ++ (b ∷ [])) ≡ true
@@ -48,7 +48,7 @@ module _ {T : Type 0} (fits : List ℤ → Bool) (after : T → List ℤ → T) 
   at-byte t o p b bs e c = rw (byte-on t o p b e, e) c
 
   -- a line has ended: a good one, behind which the others come, or the last that is looked at
-  ended : (t : T) (r : Reading) (p bs : List ℕ) (ws : List (List ℕ)) (w : List ℕ) → from-bits fits r ≡ goodIn fits p → Coming (after t (front r)) (lineDue (after t (front r)) (r .numbers)) bs ws w →
+  ended : (t : T) (r : Reading) (p bs : List ℕ) (ws : List (List ℕ)) (w : List ℕ) → told fits r ≡ goodIn fits p → Coming (after t (front r)) (lineDue (after t (front r)) (r .numbers)) bs ws w →
       Comes t (fedOf fits after (endFed fits after t r) bs) (endText fits answer t r ++ textFed fits after answer (endFed fits after t r) bs) (p ∷ ws) w
   unfolding goodOf goodThen badOf badOr afterAll answersTo
   ended t r p bs ws w l c =

@@ -11,7 +11,7 @@ pub struct Field {
 }
 
 // The flux follows d with the rotor's time constant.
-pub fn flux_next(kr: i32, flux: i32, d: i32) -> i32
+fn flux_next(kr: i32, flux: i32, d: i32) -> i32
     requires { ⌜ (natAbs kr ≤ 4096) × (natAbs flux ≤ fluxEnd) × (natAbs d ≤ fluxEnd) ⌝ }
     ensures { λ r. ⌜ r ≡ fluxNext kr flux d ⌝ }
 {
@@ -20,7 +20,7 @@ pub fn flux_next(kr: i32, flux: i32, d: i32) -> i32
 }
 
 // The slip; where there is hardly any flux it is not divided by.
-pub fn slip(kt: i32, flux: i32, q: i32) -> i32
+fn slip(kt: i32, flux: i32, q: i32) -> i32
     ensures { λ r. ⌜ r ≡ slipOf kt flux q ⌝ }
 {
     if flux < 41 {
@@ -31,7 +31,7 @@ pub fn slip(kt: i32, flux: i32, q: i32) -> i32
 }
 
 // The angle after the step, from the speed n and the slip s. The remainder is a floor's: a negative angle comes round from the top.
-pub fn angle_next(kth: i32, angle: i32, n: i32, s: i32) -> i32
+fn angle_next(kth: i32, angle: i32, n: i32, s: i32) -> i32
     requires { ⌜ (natAbs kth ≤ 8191) × (natAbs angle ≤ angles .hi) × (natAbs n ≤ speedEnd) × (natAbs s ≤ slipEnd) ⌝ }
     ensures { λ r. ⌜ r ≡ angleNext kth angle (n +ℤ s) ⌝ }
 {

@@ -1,34 +1,33 @@
--- Each signed word of a Settings comes back from its bits.
+-- Written by tools/from_bits: each signed word of a Settings comes back from its bits.
 -- Assumes nothing.
 use mathlib.Core.Path.{_≡_}
-use mir.Syntax.{w32}
-use mir.Val.{toZ, ofZ}
 use mir.Facts.{toZ-ofZ}
 use denote.RattleType.{Valss}
 use denote.Struct.Struct.{AreAll}
 use denote.Struct.Declared.{fields}
+use Rattle.fixed.proofs.Reading.{m32}
 use Rattle.settings.specs.declared.Settings.{Settings}
 use Rattle.settings.proofs.Settings.{the-type}
 
-pub record FromBits (x : Settings) : Type 0 where
-  pub t : toZ w32 (ofZ w32 (x .t)) ≡ x .t
-  pub skp : toZ w32 (ofZ w32 (x .skp)) ≡ x .skp
-  pub skcor : toZ w32 (ofZ w32 (x .skcor)) ≡ x .skcor
-  pub ski : toZ w32 (ofZ w32 (x .ski)) ≡ x .ski
-  pub ckp : toZ w32 (ofZ w32 (x .ckp)) ≡ x .ckp
-  pub ckcor : toZ w32 (ofZ w32 (x .ckcor)) ≡ x .ckcor
-  pub cki : toZ w32 (ofZ w32 (x .cki)) ≡ x .cki
-  pub v : toZ w32 (ofZ w32 (x .v)) ≡ x .v
-  pub q : toZ w32 (ofZ w32 (x .q)) ≡ x .q
-  pub kr : toZ w32 (ofZ w32 (x .kr)) ≡ x .kr
-  pub kt : toZ w32 (ofZ w32 (x .kt)) ≡ x .kt
-  pub kth : toZ w32 (ofZ w32 (x .kth)) ≡ x .kth
-  pub kn : toZ w32 (ofZ w32 (x .kn)) ≡ x .kn
-  pub f : toZ w32 (ofZ w32 (x .f)) ≡ x .f
-  pub r : toZ w32 (ofZ w32 (x .r)) ≡ x .r
+pub record FromBits (this : Settings) : Type 0 where
+  pub t : m32 (this .t) ≡ this .t
+  pub skp : m32 (this .skp) ≡ this .skp
+  pub skcor : m32 (this .skcor) ≡ this .skcor
+  pub ski : m32 (this .ski) ≡ this .ski
+  pub ckp : m32 (this .ckp) ≡ this .ckp
+  pub ckcor : m32 (this .ckcor) ≡ this .ckcor
+  pub cki : m32 (this .cki) ≡ this .cki
+  pub v : m32 (this .v) ≡ this .v
+  pub q : m32 (this .q) ≡ this .q
+  pub kr : m32 (this .kr) ≡ this .kr
+  pub kt : m32 (this .kt) ≡ this .kt
+  pub kth : m32 (this .kth) ≡ this .kth
+  pub kn : m32 (this .kn) ≡ this .kn
+  pub f : m32 (this .f) ≡ this .f
+  pub r : m32 (this .r) ≡ this .r
 
-pub from-bits : (x : Settings) (vss : Valss (fields the-type)) → AreAll (fields the-type) (the-type .to x) vss → FromBits x
-from-bits x vss g = record {
+pub from-bits : (this : Settings) (vss : Valss (fields the-type)) → AreAll (fields the-type) (the-type .to this) vss → FromBits this
+from-bits this vss g = record {
   t = toZ-ofZ (record { sfits = g .0 .1 });
   skp = toZ-ofZ (record { sfits = g .1 .0 .1 });
   skcor = toZ-ofZ (record { sfits = g .1 .1 .0 .1 });

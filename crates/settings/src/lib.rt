@@ -119,7 +119,7 @@ fn rest_ok(s: Settings) -> bool
 }
 
 // The lowest number that applies to settings, or 0.
-pub fn refusal(s: Settings) -> i32
+fn refusal(s: Settings) -> i32
     ensures { λ r. ⌜ r ≡ refusalOf s ⌝ }
 {
     if !period_ok(s) {

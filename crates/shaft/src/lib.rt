@@ -47,7 +47,7 @@ fn signed(m: u16) -> i32
     }
 }
 
-pub fn movement(count: i32, previous: i32) -> i32
+fn movement(count: i32, previous: i32) -> i32
     requires { ⌜ Count count × Count previous ⌝ }
     ensures { λ r. ⌜ r ≡ movementOf count previous ⌝ }
 {
@@ -83,7 +83,7 @@ pub fn thirtieth(s: Shaft) -> bool
     fixed::within(29, 29, s.steps)
 }
 
-pub fn speed_of(sum: i32, kn: i32) -> i32
+fn speed_of(sum: i32, kn: i32) -> i32
     ensures { λ r. ⌜ r ≡ speedOf sum kn ⌝ }
 {
     fixed::hold_to(fixed::scaled(sum, kn, 256), FASTEST)

@@ -85,6 +85,15 @@ unfolding indexOf down
 index-below (pos n) h = omega (arith, order, h .hi)
 index-below (negsuc n) h = absurd (h .lo .le)
 
+-- an angle's sine is the ladder's entry at its index, its cosine the entry a quarter on
+pub sine-entry : (a : ℤ) → Angle a → sineAt a ≡ sineEntry (indexOf a)
+unfolding sineAt sineIn
+sine-entry a h = entry-at (indexOf a) (index-below a h)
+
+pub cosine-entry : (a : ℤ) → Angle a → cosineAt a ≡ sineEntry ((indexOf a + 64) % 256)
+unfolding cosineAt cosineIn
+cosine-entry a h = entry-at ((indexOf a + 64) % 256) (omega arith)
+
 pub sine-size : (a : ℤ) → natAbs (sineAt a) ≤ 4096
 unfolding sineAt sineIn
 sine-size a = entry-size (indexOf a)

@@ -1,6 +1,6 @@
 // The sine table and its two readings.
 ghost use mathlib.Core.Path.{_≡_};
-ghost use Rattle.sine.specs.Sine.{sineTable, Angle, indexOf, sineIn, cosineIn, sineAt, cosineAt};
+ghost use Rattle.sine.specs.Sine.{sineTable, Angle, indexOf, sineIn, cosineIn};
 
 // How the table is stored is known in this file alone.
 pub type Table = [i32; 256];
@@ -296,22 +296,4 @@ pub fn cosine_in(t: &Table, angle: i32) -> i32
 {
     let i = (index(angle) + 64) % 256;
     t[i]
-}
-
-// The sine of one angle.
-pub fn sine(angle: i32) -> i32
-    requires { ⌜ Angle angle ⌝ }
-    ensures { λ r. ⌜ r ≡ sineAt angle ⌝ }
-{
-    let t = table();
-    sine_in(&t, angle)
-}
-
-// The cosine of one angle.
-pub fn cosine(angle: i32) -> i32
-    requires { ⌜ Angle angle ⌝ }
-    ensures { λ r. ⌜ r ≡ cosineAt angle ⌝ }
-{
-    let t = table();
-    cosine_in(&t, angle)
 }

@@ -1,23 +1,21 @@
 // Writes the sines that document 01 wants run: of the entries 0, 1, 16, 32, 63 and 64, and of the angle 255, which reads entry 0.
-const STDOUT: i32 = 1;
-
+// One number on a line of its own.
 fn show(v: i32) {
-    let w = v as i64;
-    if w < 0 {
-        io::write_all(STDOUT, b"-");
-        io::print_decimal(STDOUT, (0 - w) as u64);
-    } else {
-        io::print_decimal(STDOUT, w as u64);
+    let numbers = [v];
+    let mut out = [0u8; 12];
+    let place = text::put_line(&numbers, 1, &mut out, 0);
+    if !pipes::send(&out, place) {
+        pipes::unsent(b"test_entries");
     }
-    io::write_all(STDOUT, b"\n");
 }
 
 fn main() {
-    show(sine::sine(0));
-    show(sine::sine(256));
-    show(sine::sine(4096));
-    show(sine::sine(8192));
-    show(sine::sine(16128));
-    show(sine::sine(16384));
-    show(sine::sine(255));
+    let table = sine::table();
+    show(sine::sine_in(&table, 0));
+    show(sine::sine_in(&table, 256));
+    show(sine::sine_in(&table, 4096));
+    show(sine::sine_in(&table, 8192));
+    show(sine::sine_in(&table, 16128));
+    show(sine::sine_in(&table, 16384));
+    show(sine::sine_in(&table, 255));
 }

@@ -33,7 +33,7 @@ pub struct Line {
     pub bad: bool,
 }
 
-pub fn word_start() -> Word
+fn word_start() -> Word
     ensures { λ r. ⌜ r ≡ wordStart ⌝ }
 {
     Word {
@@ -52,7 +52,7 @@ fn at_most(value: u64, cap: u64) -> u64
 
 // One byte more. The value is held where ten times it is too large in any case, so that any number of digits may come and it does not
 // wrap. A byte that is no digit is good only as a minus sign, and that only as the first byte.
-pub fn word_next(w: Word, b: u8) -> Word
+fn word_next(w: Word, b: u8) -> Word
     ensures { λ r. ⌜ r ≡ wordNext w b ⌝ }
 {
     let mut n = w;
@@ -74,7 +74,7 @@ fn word_signed(w: Word) -> i64
 }
 
 // Whether the word is a number of 32 bits.
-pub fn word_ok(w: Word) -> bool
+fn word_ok(w: Word) -> bool
     ensures { λ r. ⌜ r ≡ wordOk w ⌝ }
 {
     let z = word_signed(w);
@@ -82,7 +82,7 @@ pub fn word_ok(w: Word) -> bool
 }
 
 // The word's number. Of a word that is none it is the nearest number of 32 bits, so that nothing has to be asked first.
-pub fn word_value(w: Word) -> i32
+fn word_value(w: Word) -> i32
     ensures { λ r. ⌜ r ≡ wordValue w ⌝ }
 {
     fixed::hold(word_signed(w), -2147483648, 2147483647) as i32
@@ -195,7 +195,7 @@ fn size(v: i32) -> u64
 }
 
 // A number as text, for which there is room whatever it is.
-pub fn put(v: i32, out: &mut [u8], at: usize) -> usize
+fn put(v: i32, out: &mut [u8], at: usize) -> usize
     requires { ⌜ at + 11 ≤ length (now out) ⌝ }
     ensures { λ r. ⌜ (r ≡ at + length (textOf v)) × (now (out .exit) ≡ written (now (out .entry)) at (textOf v)) ⌝ }
 {
