@@ -9,10 +9,11 @@ use lib.IntN.{ℤ}
 use lib.ListN.{length}
 use Rattle.drive_record.specs.declared.Drive.{Drive}
 use Rattle.drive_record.proofs.Ranges.{not-broken}
+use Rattle.sine.proofs.Rule.{sine-entry, cosine-entry}
 use Rattle.drive.specs.Calls.{stepTable, fresh}
 use Rattle.rows.specs.Rows.{isAccepted, isClipped, one, noRows, afterRow, ranOf, writtenOf, rowsIn, rowsFit}
 use Rattle.promises.specs.Histories.{afterCalls, rowAt, countOf}
-use Rattle.promises.specs.Demand2.{StepByTheRules, RunByRows, RunAccepted, RunOfNone, StaysUnbroken, NeverBroken, SettingsStay, SettingsAsAccepted}
+use Rattle.promises.specs.Demand2.{StepByTheRules, SineByTheLadder, RunByRows, RunAccepted, RunOfNone, StaysUnbroken, NeverBroken, SettingsStay, SettingsAsAccepted}
 use Rattle.promises.proofs.Demand1.{step-table, passed, run-table}
 use Rattle.promises.proofs.Keeping.{all-sound, reached-sound, calls-settings}
 
@@ -21,6 +22,9 @@ pub step-by-the-rules : StepByTheRules
 step-by-the-rules d ia ib count e = step-table d ia ib count .then (length (stepTable d ia ib count)) (passed d ia ib count e)
 
 -- ════ an accepted run
+pub sine-by-the-ladder : SineByTheLadder
+sine-by-the-ladder angle h = record { sine = sine-entry angle h; cosine = cosine-entry angle h }
+
 pub run-by-rows : RunByRows
 unfolding ranOf noRows afterRow rowAt writtenOf
 run-by-rows d samples = record { starts = refl; goes-on = λ i. refl; writes-none = refl; writes = λ i. refl }

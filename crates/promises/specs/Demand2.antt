@@ -2,9 +2,10 @@
 use mathlib.Core.Path.{_≡_}
 use mathlib.Core.Bool.{true, false}
 use mathlib.Core.List.{List, [], _++_}
-use Prim.Native.Nat.{ℕ, suc, _*_}
+use Prim.Native.Nat.{ℕ, suc, _+_, _*_, _%_}
 use lib.IntN.{ℤ, pos}
 use lib.ListN.{length, drop}
+use Rattle.sine.specs.Sine.{Angle, indexOf, sineEntry, sineAt, cosineAt}
 use Rattle.drive_record.specs.declared.Drive.{Drive}
 use Rattle.drive_record.specs.Record.{broken}
 use Rattle.stages.specs.Step.{advanced}
@@ -15,6 +16,14 @@ use Rattle.promises.specs.Histories.{Call, afterCalls, History, rowAt, c
 -- each accepted step gives precisely the state and the compares of "One accepted step, in order"
 abbrev pub StepByTheRules : Type 0
 StepByTheRules = (d : Drive) (ia ib count : ℤ) → stepped d ia ib count .number ≡ pos 0 → stepped d ia ib count ≡ advanced d ia ib count
+
+-- rule 4: the sine of an angle is the ladder's entry at index angle/256 down, its cosine the entry at index + 64, modulo 256
+pub record AtItsIndex (angle : ℤ) : Type 0 where
+  pub sine : sineAt angle ≡ sineEntry (indexOf angle)
+  pub cosine : cosineAt angle ≡ sineEntry ((indexOf angle + 64) % 256)
+
+abbrev pub SineByTheLadder : Type 0
+SineByTheLadder = (angle : ℤ) → Angle angle → AtItsIndex angle
 
 -- "A run takes each row (ia, ib, count) as one step, writes three compares and the number, goes on after a trip"
 pub record RowByRow (d : Drive) (samples : List ℤ) : Type 0 where
