@@ -20,6 +20,8 @@ ghost use Rattle.drive.specs.Calls.{
 use drive_record::Command;
 use drive_record::Drive;
 use drive_record::Integrals;
+use drive_record::TARGET_BACK;
+use drive_record::TARGET_END;
 use frames::Stator;
 use modulation::Pulses;
 use settings::Checked;
@@ -160,7 +162,7 @@ pub fn target(d: Drive, wanted: i32) -> Answered
     if d.tripped {
         return answer(d, 7);
     }
-    if !fixed::within(-8191, 8191, wanted) {
+    if !fixed::within(TARGET_BACK, TARGET_END, wanted) {
         return answer(d, 8);
     }
     answer(with_target(d, wanted), 0)

@@ -5,6 +5,11 @@ use field::Field;
 use settings::Settings;
 use shaft::Shaft;
 
+// The ends of targets and speed references.
+pub const TARGET_END: i32 = 8191;
+
+pub const TARGET_BACK: i32 = -TARGET_END;
+
 // The target, and the three references: speed, torque, flux.
 #[repr(C)]
 pub struct Command {
@@ -36,8 +41,8 @@ pub struct Drive {
 fn command_ok(s: Settings, c: Command) -> bool
     ensures { λ r. ⌜ r ≡ commandOk s c ⌝ }
 {
-    fixed::within(-8191, 8191, c.target)
-        & fixed::within(-8191, 8191, c.reference)
+    fixed::within(TARGET_BACK, TARGET_END, c.target)
+        & fixed::within(TARGET_BACK, TARGET_END, c.reference)
         & fixed::inside(s.q as i64, c.torque)
         & fixed::within(0, s.f, c.flux)
 }

@@ -4,7 +4,7 @@ ghost use Prim.Native.Nat.{_≤_};
 ghost use lib.IntN.{pos, natAbs, negℤ};
 ghost use lib.Signed.{_≤ℤ_};
 ghost use Rattle.shaft.specs.Shaft.{
-  signed16 as signedOf,
+  signed16,
   movement as movementOf,
   moved as movedOf,
   counted as countedOf,
@@ -20,6 +20,11 @@ ghost use Rattle.shaft.specs.Shaft.{
   Count,
   ShaftSized,
 };
+
+// The highest count, and the most steps that stand in the window: one more is a tick.
+pub const LAST_COUNT: i32 = 65535;
+
+const LAST_STEP: i32 = 29;
 
 // The highest speed, and the highest backwards.
 const FASTEST: i32 = 16383;
@@ -38,7 +43,7 @@ pub struct Shaft {
 
 // A count that has come round the counter's end is a movement the other way.
 fn signed(m: u16) -> i32
-    ensures { λ r. ⌜ r ≡ signedOf (pos m) ⌝ }
+    ensures { λ r. ⌜ r ≡ signed16 (pos m) ⌝ }
 {
     if m < 32768 {
         m as i32
@@ -80,7 +85,7 @@ pub fn counted(s: Shaft, count: i32) -> Shaft
 pub fn thirtieth(s: Shaft) -> bool
     ensures { λ r. ⌜ r ≡ isThirtieth s ⌝ }
 {
-    fixed::within(29, 29, s.steps)
+    fixed::within(LAST_STEP, LAST_STEP, s.steps)
 }
 
 fn speed_of(sum: i32, kn: i32) -> i32
@@ -148,8 +153,8 @@ pub fn unmoved() -> Shaft
 pub fn shaft_ok(s: Shaft) -> bool
     ensures { λ r. ⌜ r ≡ shaftOk s ⌝ }
 {
-    fixed::within(0, 65535, s.count)
-        & fixed::within(0, 29, s.steps)
+    fixed::within(0, LAST_COUNT, s.count)
+        & fixed::within(0, LAST_STEP, s.steps)
         & fixed::inside(fixed::times(32768, s.steps), s.sum)
         & fixed::within(BACKWARDS, FASTEST, s.speed)
 }

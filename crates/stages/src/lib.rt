@@ -208,12 +208,17 @@ pub fn advance(d: Drive, ia: i32, ib: i32, count: i32, table: &sine::Table) -> S
     rules_6_to_9(n, currents(ia, ib, sin, cos), sin, cos)
 }
 
+// The ends of samples of current, and of their sum.
+const SAMPLE_END: i32 = 8191;
+
+const SAMPLE_BACK: i32 = -SAMPLE_END;
+
 // ia and ib are tested before their sum is formed.
 pub fn sample_ok(ia: i32, ib: i32, count: i32) -> bool
     ensures { λ r. ⌜ r ≡ sampleOk ia ib count ⌝ }
 {
-    if fixed::within(-8191, 8191, ia) & fixed::within(-8191, 8191, ib) {
-        fixed::within(-8191, 8191, ia + ib) & fixed::within(0, 65535, count)
+    if fixed::within(SAMPLE_BACK, SAMPLE_END, ia) & fixed::within(SAMPLE_BACK, SAMPLE_END, ib) {
+        fixed::within(SAMPLE_BACK, SAMPLE_END, ia + ib) & fixed::within(0, shaft::LAST_COUNT, count)
     } else {
         false
     }
