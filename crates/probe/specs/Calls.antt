@@ -5,7 +5,7 @@ use mathlib.Core.List.{List}
 use lib.Dec.{eqb}
 use lib.IntN.{ℤ, pos}
 use lib.ListN.{length, getD}
-use Rattle.fixed.specs.Fixed.{within}
+use Rattle.fixed.specs.Fixed.{within, equal}
 use Rattle.settings.specs.Words.{size}
 use Rattle.feeding.specs.Lines.{oneMore}
 use Rattle.feeding.specs.Feeding.{Fed}
@@ -27,7 +27,7 @@ flags ns = within (pos 0) (pos 1) (getD ns (recordAt + 1) (pos 0)) && within (po
 
 -- so many numbers, of which the first says which call it is: 0 make, 1 step, 2 target, 3 clear
 abbrev pub call : List ℤ → ℤ → Bool
-call ns k = within k k (getD ns 0 (pos 0))
+call ns k = equal k (getD ns 0 (pos 0))
 
 unfoldable pub callBy : List ℤ → ℕ → Bool
 callBy ns n =

@@ -9,8 +9,7 @@ use lib.IntN.{ℤ, pos}
 use lib.ListN.{length}
 use Rattle.fixed.specs.Fixed.{within}
 use Rattle.fixed.specs.Ladder.{answerOf, Reached}
-use Rattle.fixed.proofs.Ring.{≤-antisym}
-use Rattle.fixed.proofs.HeldLaws.{within-lo, within-hi}
+use Rattle.fixed.proofs.HeldLaws.{equal-is}
 use Rattle.fixed.proofs.LadderLaws.{Climbs, exactly, every, holds, all-pass}
 use Rattle.settings.specs.declared.Settings.{Settings}
 use Rattle.settings.specs.declared.Checked.the-variants.{Accepted}
@@ -99,7 +98,7 @@ pub zero-if-accepted : ZeroIfAccepted
 unfolding accepted isAccepted
 zero-if-accepted = record {
   settings = λ s. let p = all-pass (refusals s) in let g = make-table s .given 5 in (λ a. g .1 (p .0 a), λ n. p .1 (g .0 n));
-  step = λ s. (λ a. ≤-antisym (within-hi (pos 0) (pos 0) _ a) (within-lo (pos 0) (pos 0) _ a), λ n. rw n refl);
+  step = λ s. equal-is (pos 0) (s .number);
 }
 
 -- ════ a step by its outcome, whatever its rungs: the record is broken; the state is the same, of a tripped drive; it is marked tripped; or the step is

@@ -5,7 +5,7 @@ use mathlib.Core.List.{List, [], _∷_}
 use Prim.Native.Nat.{ℕ, zero, suc, _+_, _-_, _/_}
 use lib.IntN.{ℤ, pos, natAbs, _-ℤ_}
 use lib.ListN.{length}
-use Rattle.fixed.specs.Fixed.{within}
+use Rattle.fixed.specs.Fixed.{equal}
 use Rattle.shaft.specs.Shaft.{thirtieth}
 use Rattle.settings.specs.declared.Settings.{Settings}
 use Rattle.drive_record.specs.declared.Drive.{Drive}
@@ -86,7 +86,7 @@ stepsOf d (c ∷ cs) = stepsIn d c + stepsOf (afterCall d c) cs
 unfoldable pub clears : Drive → Call → Bool
 clears d (stepping ia ib count) = false
 clears d (aiming wanted) = false
-clears d clearing = within (pos 0) (pos 0) (cleared d .number)
+clears d clearing = equal (pos 0) (cleared d .number)
 clears d (running samples out) = false
 
 unfoldable pub NoClear : Drive → List Call → Type 0

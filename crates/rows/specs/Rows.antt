@@ -5,7 +5,7 @@ use mathlib.Core.List.{List, [], _∷_, _++_}
 use lib.ListN.{length, getD, drop}
 use lib.Dec.{leb, eqb}
 use lib.IntN.{ℤ, pos}
-use Rattle.fixed.specs.Fixed.{within}
+use Rattle.fixed.specs.Fixed.{equal}
 use Rattle.fixed.specs.Ladder.{Rung, when, unless, answerOf}
 use Rattle.drive_record.specs.declared.Drive.{Drive}
 use Rattle.drive_record.specs.Record.{broken}
@@ -24,7 +24,7 @@ four s = s .pulses .a ∷ s .pulses .b ∷ s .pulses .c ∷ s .number ∷ []
 
 -- an accepted step has number 0
 unfoldable pub isAccepted : Stepped → Bool
-isAccepted s = within (pos 0) (pos 0) (s .number)
+isAccepted s = equal (pos 0) (s .number)
 
 -- the clipped ones among them
 unfoldable pub isClipped : Stepped → Bool

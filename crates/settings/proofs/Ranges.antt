@@ -1,12 +1,12 @@
 -- Accepted settings as named ranges: `accepted s ≡ true` exactly when `SettingsIn s`; and what the check's two answers say.
 -- Assumes nothing.
 use mathlib.Core.Path.{_≡_, refl, sym, _∙_}
+use mathlib.Core.Logic.{_↔_}
 use mathlib.Core.Bool.{Bool, true, false, cond, _&&_, true≢false}
 use lib.IntN.{ℤ, pos, _*ℤ_}
-use lib.Signed.{leZ, ≤ℤ-refl}
+use lib.Signed.{leZ}
 use Rattle.fixed.specs.Fixed.{isIn}
-use Rattle.fixed.proofs.Ring.{≤-antisym}
-use Rattle.fixed.proofs.HeldLaws.{and-both, within-lo, within-hi, within-yes}
+use Rattle.fixed.proofs.HeldLaws.{and-both, equal-is}
 use Rattle.fixed.proofs.LadderLaws.{all-pass, none-given, answered-by}
 use Rattle.fixed.proofs.Ranges.{In, two, three, four}
 use Rattle.settings.specs.declared.Settings.{Settings}
@@ -35,19 +35,15 @@ pub record SettingsIn (s : Settings) : Type 0 where
   pub r : In range.r (s .r)
 
 -- ════ settings
-tied→ : (kp kcor ki : ℤ) → tied kp kcor ki ≡ true → pos 4096 *ℤ ki ≡ kp *ℤ kcor
+tied-is : (kp kcor ki : ℤ) → (tied kp kcor ki ≡ true) ↔ (pos 4096 *ℤ ki ≡ kp *ℤ kcor)
 unfolding tied
-tied→ kp kcor ki e = let p = kp *ℤ kcor in ≤-antisym (within-hi p p (pos 4096 *ℤ ki) e) (within-lo p p (pos 4096 *ℤ ki) e)
-
-tied← : (kp kcor ki : ℤ) → pos 4096 *ℤ ki ≡ kp *ℤ kcor → tied kp kcor ki ≡ true
-unfolding tied
-tied← kp kcor ki e = let p = kp *ℤ kcor in rw e (within-yes p p p (≤ℤ-refl p) (≤ℤ-refl p))
+tied-is kp kcor ki = equal-is (kp *ℤ kcor) (pos 4096 *ℤ ki)
 
 gains→ : (kp kcor ki : ℤ) → gainOk kp kcor ki ≡ true → tied kp kcor ki ≡ true → GainsIn kp kcor ki
 unfolding gainOk
 gains→ kp kcor ki e t =
     let h = three (isIn range.kp kp) (isIn range.kcor kcor) (isIn range.ki ki) e in
-    record { kp-in = h .0; kcor-in = h .1; ki-in = h .2; is-tied = tied→ kp kcor ki t }
+    record { kp-in = h .0; kcor-in = h .1; ki-in = h .2; is-tied = tied-is kp kcor ki .0 t }
 
 gains← : (kp kcor ki : ℤ) → GainsIn kp kcor ki → gainOk kp kcor ki ≡ true
 unfolding gainOk
@@ -81,7 +77,7 @@ pub accepted← : (s : Settings) → SettingsIn s → accepted s ≡ true
 unfolding accepted periodOk gainsOk gainsTied limitsOk restOk
 accepted← s i =
     let gains = and-both (gains← _ _ _ (i .speed)) (gains← _ _ _ (i .current)) in
-    let ties = and-both (tied← _ _ _ (i .speed .is-tied)) (tied← _ _ _ (i .current .is-tied)) in
+    let ties = and-both (tied-is _ _ _ .1 (i .speed .is-tied)) (tied-is _ _ _ .1 (i .current .is-tied)) in
     let rest = and-both (and-both (and-both (and-both (and-both (i .kr) (i .kt)) (i .kth)) (i .kn)) (i .f)) (i .r) in
     all-pass (refusals s) .1 (i .t, (gains, (ties, (and-both (i .v) (i .q), (rest, tt)))))
 

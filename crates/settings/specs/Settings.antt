@@ -2,7 +2,7 @@
 use mathlib.Core.Bool.{Bool, _&&_}
 use mathlib.Core.List.{List, [], _∷_}
 use lib.IntN.{ℤ, pos, _*ℤ_}
-use Rattle.fixed.specs.Fixed.{within, isIn}
+use Rattle.fixed.specs.Fixed.{equal, isIn}
 use Rattle.fixed.specs.Ladder.{Rung, unless, answerOf, firstOf, allPass}
 use Rattle.settings.specs.declared.Settings.{Settings}
 use Rattle.settings.specs.declared.Checked.{Checked}
@@ -19,9 +19,9 @@ gainOk kp kcor ki = isIn range.kp kp && isIn range.kcor kcor && isIn range.ki ki
 unfoldable pub gainsOk : Settings → Bool
 gainsOk s = gainOk (s .skp) (s .skcor) (s .ski) && gainOk (s .ckp) (s .ckcor) (s .cki)
 
--- 4096·Ki = Kp·Kcor: within p..p is to be p
+-- 4096·Ki = Kp·Kcor
 unfoldable pub tied : ℤ → ℤ → ℤ → Bool
-tied kp kcor ki = within (kp *ℤ kcor) (kp *ℤ kcor) (pos 4096 *ℤ ki)
+tied kp kcor ki = equal (kp *ℤ kcor) (pos 4096 *ℤ ki)
 
 unfoldable pub gainsTied : Settings → Bool
 gainsTied s = tied (s .skp) (s .skcor) (s .ski) && tied (s .ckp) (s .ckcor) (s .cki)

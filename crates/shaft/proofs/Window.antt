@@ -10,11 +10,11 @@ use native.Mathlib.Omega.{arith}
 use lib.Dec.{T}
 use lib.IntN.{ℤ, pos, negsuc, negℤ, natAbs, _+ℤ_, _-ℤ_, _*ℤ_}
 use lib.Signed.{_≤ℤ_, _<ℤ_, ltZ, ltZ-yes, ltZ-no, pos-natAbs, yes-nonNeg}
-use Rattle.fixed.specs.Fixed.{down, modulo, within}
+use Rattle.fixed.specs.Fixed.{down, modulo}
 use Rattle.fixed.proofs.Parts.{cond-ind, order, parts-+, parts--}
 use Rattle.fixed.proofs.Size.{abs-+, abs←}
 use Rattle.fixed.proofs.DownLaws.{modulo-lo, modulo-hi}
-use Rattle.fixed.proofs.HeldLaws.{held-size, within-lo, within-hi}
+use Rattle.fixed.proofs.HeldLaws.{held-size, equal-is}
 use Rattle.shaft.specs.declared.Shaft.{Shaft}
 use Rattle.shaft.specs.Shaft.{signed16, movement, moved, counted, thirtieth, speedOf, fastest}
 
@@ -67,10 +67,7 @@ sum-next s count h k =
 -- a 30th step is one with 29 before it, and any other leaves room in the window
 pub thirtieth-at : (s : Shaft) → (thirtieth s ≡ true) ↔ (s .steps ≡ pos 29)
 unfolding thirtieth
-thirtieth-at s = (
-  λ e. let l = within-lo (pos 29) (pos 29) (s .steps) e in let u = within-hi (pos 29) (pos 29) (s .steps) e in omega (arith, order),
-  λ e. ap (within (pos 29) (pos 29)) e,
-)
+thirtieth-at s = equal-is (pos 29) (s .steps)
 
 pub steps-room : (s : Shaft) (count : ℤ) → pos 0 ≤ℤ s .steps → natAbs (s .steps) ≤ 29 → thirtieth s ≡ false → natAbs (counted s count .steps) ≤ 29
 steps-room s count h k e =

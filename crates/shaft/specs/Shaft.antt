@@ -4,7 +4,7 @@ use mathlib.Core.Path.{_≡_}
 use mathlib.Core.Bool.{Bool, true, false, cond, _&&_}
 use lib.IntN.{ℤ, pos, negℤ, natAbs, _+ℤ_, _-ℤ_, _*ℤ_}
 use lib.Signed.{ltZ, leZ}
-use Rattle.fixed.specs.Fixed.{down, modulo, held, within, inside, Range, isIn}
+use Rattle.fixed.specs.Fixed.{down, modulo, held, equal, inside, Range, isIn}
 use Rattle.shaft.specs.declared.Shaft.{Shaft}
 
 -- ════ the sizes
@@ -42,7 +42,7 @@ counted s count =
 
 -- a step is a 30th exactly when the steps in the window are 29 before it
 unfoldable pub thirtieth : Shaft → Bool
-thirtieth s = within (pos (window .hi)) (pos (window .hi)) (s .steps)
+thirtieth s = equal (pos (window .hi)) (s .steps)
 
 -- speed n = sum·Kn/256 down, held to ±16383
 unfoldable pub speedOf : ℤ → ℤ → ℤ
