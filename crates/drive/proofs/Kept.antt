@@ -6,6 +6,7 @@ use lib.IntN.{ℤ, pos}
 use lib.Signed.{≤ℤ-refl}
 use Rattle.fixed.specs.Fixed.{inside}
 use Rattle.fixed.proofs.HeldLaws.{within-yes}
+use Rattle.fixed.proofs.LadderLaws.{each}
 use Rattle.fixed.proofs.Ranges.{Inside, in-lo, in-up, zero-inside}
 use Rattle.shaft.proofs.ShaftRanges.{unmoved-in}
 use Rattle.field.proofs.FieldRanges.{still-in}
@@ -15,13 +16,13 @@ use Rattle.settings.specs.Settings.{accepted, checked}
 use Rattle.settings.specs.Ranges as range
 use Rattle.settings.proofs.Ranges.{accepted→, accepted←}
 use Rattle.drive_record.specs.declared.Drive.{Drive}
-use Rattle.drive_record.specs.Record.{targetEnd, sound, broken}
+use Rattle.drive_record.specs.Record.{targetEnd, sound}
 use Rattle.drive_record.proofs.Ranges.{Sound, sound←, not-broken}
 use Rattle.stages.specs.declared.Stepped.{Stepped}
-use Rattle.stages.specs.Step.{sampleOk}
-use Rattle.stages.proofs.Kept.{choose, advanced-sound}
+use Rattle.stages.specs.Step.{advanced}
+use Rattle.stages.proofs.Kept.{advanced-sound}
 use Rattle.drive.specs.declared.Answered.{Answered}
-use Rattle.drive.specs.Calls.{fresh, withTrip, refused, steppedSound, stepped, retargeted, withTarget, targeted, cleared}
+use Rattle.drive.specs.Calls.{fresh, withTrip, refused, soundTable, steppedSound, stepped, retargeted, withTarget, answered, targetTable, targeted, clearTable, cleared}
 use Rattle.drive.proofs.CallLaws.{ready-accepted}
 
 -- ════ a fresh drive
@@ -72,10 +73,8 @@ step-is-sound d ia ib count h = rw (not-broken d .1 h) refl
 pub sound-stays : (d : Drive) (ia ib count : ℤ) → Sound d → Sound (steppedSound d ia ib count .drive)
 unfolding steppedSound refused
 sound-stays d ia ib count h =
-    let Q : Stepped → Type 0 = λ s. Sound (s .drive) in
-    choose Q (d .tripped) _ _
-    (λ t. h)
-    (λ t. choose Q (sampleOk ia ib count) _ _ (λ e. advanced-sound d ia ib count h e) (λ e. trip-sound d h))
+    each (λ (s : Stepped). Sound (s .drive)) (soundTable d ia ib count) (advanced d ia ib count)
+    (λ t. h, λ t. (λ o. trip-sound d h, λ o. advanced-sound d ia ib count h o))
 
 pub stepped-sound : (d : Drive) (ia ib count : ℤ) → Sound d → Sound (stepped d ia ib count .drive)
 stepped-sound d ia ib count h = rw (step-is-sound d ia ib count h) (sound-stays d ia ib count h)
@@ -83,15 +82,11 @@ stepped-sound d ia ib count h = rw (step-is-sound d ia ib count h) (sound-stays 
 pub targeted-sound : (d : Drive) (wanted : ℤ) → Sound d → Sound (targeted d wanted .drive)
 unfolding targeted inside
 targeted-sound d wanted h =
-    let Q : Answered → Type 0 = λ a. Sound (a .drive) in
-    choose Q (broken d) _ _
-    (λ b. h)
-    (λ b. choose Q (d .tripped) _ _ (λ t. h) (λ t. choose Q (inside (pos targetEnd) wanted) _ _ (λ w. target-sound d wanted h w) (λ w. h)))
+    each (λ (a : Answered). Sound (a .drive)) (targetTable d wanted) (answered (withTarget d wanted) (pos 0))
+    (λ b. h, λ b. (λ t. h, λ t. (λ w. h, λ w. target-sound d wanted h w)))
 
 pub cleared-sound : (d : Drive) → Sound d → Sound (cleared d .drive)
 unfolding cleared
 cleared-sound d h =
-    let Q : Answered → Type 0 = λ a. Sound (a .drive) in
-    choose Q (broken d) _ _
-    (λ b. h)
-    (λ b. choose Q (d .tripped) _ _ (λ t. fresh-sound (d .settings) (accepted← (d .settings) (h .settings))) (λ t. h))
+    each (λ (a : Answered). Sound (a .drive)) (clearTable d) (answered (fresh (d .settings)) (pos 0))
+    (λ b. h, λ b. (λ t. h, λ t. fresh-sound (d .settings) (accepted← (d .settings) (h .settings))))

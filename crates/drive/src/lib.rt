@@ -115,11 +115,10 @@ pub fn step_sound(d: Drive, ia: i32, ib: i32, count: i32, table: &sine::Table) -
     if d.tripped {
         return refused(d, d.settings.t, 7);
     }
-    if stages::sample_ok(ia, ib, count) {
-        stages::advance(d, ia, ib, count, table)
-    } else {
-        refused(with_trip(d), d.settings.t, 6)
+    if !stages::sample_ok(ia, ib, count) {
+        return refused(with_trip(d), d.settings.t, 6);
     }
+    stages::advance(d, ia, ib, count, table)
 }
 
 // One step from any record and any sample.
@@ -175,8 +174,8 @@ pub fn clear(d: Drive) -> Answered
     if !drive_record::sound(d) {
         return answer(d, 14);
     }
-    if d.tripped {
-        return answer(fresh(d.settings), 0);
+    if !d.tripped {
+        return answer(d, 10);
     }
-    answer(d, 10)
+    answer(fresh(d.settings), 0)
 }

@@ -92,7 +92,7 @@ module _ {A : Type 0} where
   Each Q (when test n x ∷ rs) z = (test ≡ true → Q (x (pos n))) × (test ≡ false → Each Q rs z)
   Each Q (unless test n x ∷ rs) z = (test ≡ false → Q (x (pos n))) × (test ≡ true → Each Q rs z)
 
-  each : (Q : A → Type 0) (rs : List (Rung A)) (z : A) → Each Q rs z → Q (answerOf rs z)
+  pub each : (Q : A → Type 0) (rs : List (Rung A)) (z : A) → Each Q rs z → Q (answerOf rs z)
   each Q [] z h = h
   each Q (when true n x ∷ rs) z h = h .0 refl
   each Q (when false n x ∷ rs) z h = each Q rs z (h .1 refl)

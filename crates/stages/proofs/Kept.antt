@@ -85,7 +85,7 @@ unfolding withShaft
 with-shaft-sound d s h i =
     record { settings = h .settings; shaft = i; command = h .command; field = h .field; integrals = h .integrals }
 
-pub choose : {A : Type 0} (Q : A → Type 0) (b : Bool) (x y : A) → (b ≡ true → Q x) → (b ≡ false → Q y) → Q (cond b x y)
+choose : {A : Type 0} (Q : A → Type 0) (b : Bool) (x y : A) → (b ≡ true → Q x) → (b ≡ false → Q y) → Q (cond b x y)
 choose Q true x y f g = f refl
 choose Q false x y f g = g refl
 

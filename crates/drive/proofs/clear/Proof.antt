@@ -2,6 +2,7 @@
 -- Assumes nothing.
 use mathlib.Core.Path.{_≡_}
 use mathlib.Core.Bool.{true}
+use borrow.Author.Tests.{not-true, not-false}
 use Rattle.drive_record.specs.Record.{sound, broken}
 use Rattle.fixed.proofs.Asked.{no, yes}
 use Rattle.drive.specs.Calls.{cleared}
@@ -17,14 +18,14 @@ is-sound c = yes (c .before .sound .ensures) (c .if1 .left)
 
 returns-2 : tie.Need-returns-2
 unfolding cleared broken
-returns-2 c =
-    let k = c .before in
-    let e = k .before in
-    simp (c .answer2 .ensures, k .fresh .ensures, is-sound (e .before), e .if2 .taken)
+returns-2 c = let e = c .before in simp (c .answer2 .ensures, is-sound (e .before .before), not-true (e .before .before .before .before .args .d .tripped) (e .if2 .taken))
 
 returns-3 : tie.Need-returns-3
 unfolding cleared broken
-returns-3 c = let e = c .before in simp (c .answer3 .ensures, is-sound (e .before), e .if2 .left)
+returns-3 c =
+    let k = c .before in
+    let e = k .before in
+    simp (c .answer3 .ensures, k .fresh .ensures, is-sound (e .before .before), not-false (e .before .before .before .before .args .d .tripped) (e .if2 .left))
 
 pub clear-spec : {M : Type 1} → statement M
-clear-spec = tie.close (tie.spec (λ c κs. tt) (λ c κs. tt) returns (λ c κs. tt) (λ c κs. tt) returns-2 (λ c κs. tt) returns-3)
+clear-spec = tie.close (tie.spec (λ c κs. tt) (λ c κs. tt) returns (λ c κs. tt) returns-2 (λ c κs. tt) (λ c κs. tt) returns-3)
