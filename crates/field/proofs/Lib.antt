@@ -2,3 +2,4 @@ pub mod FieldLaws
 pub mod Cases
 pub mod FieldFromBits
 pub mod FieldRanges
+pub mod AtBench

@@ -3,3 +3,4 @@ pub mod FrameLaws
 pub mod Cases
 pub mod RotorFromBits
 pub mod StatorFromBits
+pub mod AtBench

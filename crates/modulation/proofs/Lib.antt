@@ -3,3 +3,4 @@ pub mod Clipping
 pub mod Compares
 pub mod Cases
 pub mod Sizes
+pub mod AtBench

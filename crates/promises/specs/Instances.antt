@@ -1,32 +1,99 @@
--- Drives with 01's bench set, at which the promises' hypotheses are met.
+-- No promise is empty: the hypotheses of each are met together, by 01's bench set from fresh and by drives with it.
+use mathlib.Core.Path.{_≡_}
 use mathlib.Core.Bool.{true, false}
-use lib.IntN.{ℤ, pos}
+use mathlib.Core.List.{List, [], _∷_}
+use lib.IntN.{ℤ, pos, negsuc, _*ℤ_}
+use lib.Signed.{_<ℤ_, _≤ℤ_}
+use Rattle.fixed.specs.Ladder.{Reached}
+use Rattle.sine.specs.Sine.{Angle}
+use Rattle.shaft.specs.Shaft.{thirtieth}
 use Rattle.settings.specs.declared.Settings.{Settings}
-use Rattle.drive_record.specs.declared.Drive.{Drive}
 use Rattle.settings.specs.BenchSettings.{benchWith, benchSettings}
+use Rattle.settings.specs.Settings.{accepted}
+use Rattle.drive_record.specs.declared.Drive.{Drive}
+use Rattle.drive_record.specs.Record.{broken}
+use Rattle.stages.specs.Step.{withShaft}
+use Rattle.drive.specs.Calls.{fresh, withTrip, stepTable, stepped, withTarget, targetTable, clearTable}
+use Rattle.rows.specs.Rows.{noRows, runTable}
+use Rattle.promises.specs.Histories.{Call, stepping, aiming, clearing, running, History, rowAt, Quiet, NoClear}
+use Rattle.promises.specs.Words.{dError, qError, speedError}
 
--- before a tick: 29 steps in the window, in which the shaft moved by the sum; the target 100 away
+-- ════ the drives
+-- the bench set, fresh
+abbrev pub rested : Drive
+rested = fresh benchSettings
+
+-- before a tick: it has a target, and its shaft has stood for 29 steps
 unfoldable pub waiting : ℤ → Drive
-waiting sum = record {
-  settings = benchSettings;
-  shaft = record { count = pos 7; seen = true; sum = sum; steps = pos 29; speed = pos 0 };
-  command = record { target = pos 100; reference = pos 0; torque = pos 0; flux = pos 2458 };
-  field = record { flux = pos 2458; angle = pos 0 };
-  integrals = record { speed = pos 0; d = pos 0; q = pos 0 };
-  tripped = false;
-}
+waiting target = withShaft (withTarget rested target) (record { count = pos 0; seen = true; sum = pos 0; steps = pos 29; speed = pos 0 })
 
--- a broken record: its angle is out of range
-unfoldable pub spoiled : Drive
-spoiled = record {
-  settings = benchSettings;
-  shaft = waiting (pos 0) .shaft;
-  command = waiting (pos 0) .command;
-  field = record { flux = pos 0; angle = pos 65536 };
-  integrals = waiting (pos 0) .integrals;
-  tripped = false;
-}
-
--- settings that are refused: the bench set with document 004's gains 4.0, 0.125, 0.125
-unfoldable pub untied : Settings
+-- settings that are refused, the bench set with document 004's gains 4.0, 0.125, 0.125; so a record with them is broken
+abbrev pub untied : Settings
 untied = benchWith (pos 16384) (pos 512) (pos 512)
+
+abbrev pub spoiled : Drive
+spoiled = fresh untied
+
+-- ════ demand 1: each row of a table, the first being 0, applies to some call, and to another none does. A run is refused for samples that are not in
+-- threes, and for an output that is too short
+abbrev pub threeZeros : List ℤ
+threeZeros = pos 0 ∷ pos 0 ∷ pos 0 ∷ []
+
+abbrev pub fourZeros : List ℤ
+fourZeros = pos 0 ∷ threeZeros
+
+pub record TablesMet : Type 0 where
+  pub settings : (accepted benchSettings ≡ true) × (accepted untied ≡ false)
+  pub step :
+      Reached (stepTable spoiled (pos 0) (pos 0) (pos 0)) 0
+      × Reached (stepTable (withTrip rested) (pos 0) (pos 0) (pos 0)) 1
+      × Reached (stepTable rested (pos 9000) (pos 0) (pos 0)) 2
+      × Reached (stepTable rested (pos 0) (pos 0) (pos 0)) 3
+  pub target :
+      Reached (targetTable spoiled (pos 0)) 0
+      × Reached (targetTable (withTrip rested) (pos 0)) 1
+      × Reached (targetTable rested (pos 8192)) 2
+      × Reached (targetTable rested (pos 100)) 3
+  pub clear : Reached (clearTable spoiled) 0 × Reached (clearTable rested) 1 × Reached (clearTable (withTrip rested)) 2
+  pub run :
+      Reached (runTable spoiled threeZeros fourZeros (noRows spoiled)) 0
+      × Reached (runTable rested fourZeros fourZeros (noRows rested)) 1
+      × Reached (runTable rested threeZeros threeZeros (noRows rested)) 1
+      × Reached (runTable rested threeZeros fourZeros (noRows rested)) 2
+
+-- ════ demands 2 and 3: a step of drive d with current ia, ib and count being 0, is taken
+abbrev pub Taken : Drive → ℤ → Type 0
+Taken d ia = stepped d ia (pos 0) (pos 0) .number ≡ pos 0
+
+-- between two ticks, from an angle: one that is not clipped, one with the errors of both currents negative, one with both worth a count
+pub record StepsMet : Type 0 where
+  pub angle : Angle (rested .field .angle)
+  pub plain : Taken rested (pos 0) × (thirtieth (rested .shaft) ≡ false) × (stepped rested (pos 0) (pos 0) (pos 0) .pulses .clipped ≡ false)
+  pub forth : Taken rested (pos 3000)
+  pub negative : (dError rested (pos 3000) (pos 0) (pos 0) <ℤ pos 0) × (qError rested (pos 3000) (pos 0) (pos 0) <ℤ pos 0)
+  pub back : Taken rested (negsuc 2999)
+  pub worth :
+      (pos 4096 ≤ℤ (dError rested (negsuc 2999) (pos 0) (pos 0) *ℤ rested .settings .ckp))
+      × (pos 4096 ≤ℤ (qError rested (negsuc 2999) (pos 0) (pos 0) *ℤ rested .settings .ckp))
+
+-- ticks: one with the speed's error negative, one with it worth a count; and a row that is one
+pub record TicksMet : Type 0 where
+  pub down : Taken (waiting (negsuc 99)) (pos 0) × (thirtieth (waiting (negsuc 99) .shaft) ≡ true)
+  pub negative : speedError (waiting (negsuc 99)) (pos 0) (pos 0) (pos 0) <ℤ pos 0
+  pub up : Taken (waiting (pos 100)) (pos 0) × (thirtieth (waiting (pos 100) .shaft) ≡ true)
+  pub worth : pos 4096 ≤ℤ (speedError (waiting (pos 100)) (pos 0) (pos 0) (pos 0) *ℤ waiting (pos 100) .settings .skp)
+  pub row : rowAt (waiting (pos 100)) threeZeros 0 .number ≡ pos 0
+
+-- ════ histories: one with no call yet
+abbrev pub HistoryMet : Type 0
+HistoryMet = History rested
+
+-- calls that leave the target and trip nothing: a target and a clear that are refused, a run of no rows, and a tick
+abbrev pub quiet : List Call
+quiet = aiming (pos 8192) ∷ clearing ∷ running [] [] ∷ stepping (pos 0) (pos 0) (pos 0) ∷ []
+
+pub record QuietMet : Type 0 where
+  pub intact : broken (waiting (pos 100)) ≡ false
+  pub untripped : waiting (pos 100) .tripped ≡ false
+  pub calls : Quiet (waiting (pos 100)) quiet
+  pub none-clears : NoClear (waiting (pos 100)) quiet

@@ -5,6 +5,6 @@ pub mod Words
 pub mod Demand3
 pub mod Ramp
 pub mod Starred
-pub mod Bench
+pub mod Instances
 pub mod Settled
 pub mod InPlace

@@ -1,3 +1,4 @@
 pub mod SettingsFromBits
 pub mod Ranges
 pub mod WordLaws
+pub mod AtBench

@@ -5,3 +5,4 @@ pub mod Ramp
 pub mod Weakening
 pub mod Cases
 pub mod ShaftRanges
+pub mod AtBench

@@ -3,3 +3,4 @@ pub mod Kept
 pub mod Regulating
 pub mod Samples
 pub mod SteppedFromBits
+pub mod AtBench
