@@ -38,42 +38,24 @@ record At (e : Entries) (n : ℕ) : Type 0 where
 abbrev Neg : ℤ → Type 0
 Neg u = (P (negℤ u) ≡ N u) × (N (negℤ u) ≡ P u)
 
-neg : (u : ℤ) → Neg u
-neg u = (P-neg u, N-neg u)
-
 abbrev Sum : ℤ → ℤ → Type 0
 Sum u v = P (u +ℤ v) + N u + N v ≡ N (u +ℤ v) + P u + P v
 
 gap : (u v w : ℤ) → P u + N v + N w ≡ N u + P v + P w → u -ℤ v ≡ w
 gap u v w h = omega (arith, order, parts-- u v)
 
--- X is Y + Z, the opposites of the three, and the sum of the two entries of each row
+-- X is Y + Z, the opposites of the three, and the sum of the two entries of each row, 1 to 6
 record Known (x y z : ℤ) : Type 0 where
   pub all : P x + N y + N z ≡ N x + P y + P z
-  pub neg-x : Neg x
-  pub neg-y : Neg y
-  pub neg-z : Neg z
-  pub row1 : Sum z y
-  pub row2 : Sum y (negℤ x)
-  pub row3 : Sum (negℤ z) x
-  pub row4 : Sum (negℤ x) z
-  pub row5 : Sum x (negℤ y)
-  pub row6 : Sum (negℤ y) (negℤ z)
+  pub opposites : Neg x × Neg y × Neg z
+  pub rows : Sum z y × Sum y (negℤ x) × Sum (negℤ z) x × Sum (negℤ x) z × Sum x (negℤ y) × Sum (negℤ y) (negℤ z)
 
 known : (x y z : ℤ) → x ≡ y +ℤ z → Known x y z
-known x y z e =
-    record {
-      all = omega (arith, order, parts-+ y z);
-      neg-x = neg x;
-      neg-y = neg y;
-      neg-z = neg z;
-      row1 = parts-+ z y;
-      row2 = parts-+ y (negℤ x);
-      row3 = parts-+ (negℤ z) x;
-      row4 = parts-+ (negℤ x) z;
-      row5 = parts-+ x (negℤ y);
-      row6 = parts-+ (negℤ y) (negℤ z);
-    }
+known x y z e = record {
+  all = omega (arith, order, parts-+ y z);
+  opposites = ((P-neg x, N-neg x), (P-neg y, N-neg y), (P-neg z, N-neg z));
+  rows = (parts-+ z y, parts-+ y (negℤ x), parts-+ (negℤ z) x, parts-+ (negℤ x) z, parts-+ x (negℤ y), parts-+ (negℤ y) (negℤ z));
+}
 
 -- ════ the three tests of N
 abbrev Side : Bool → ℤ → Type 0

@@ -1,5 +1,6 @@
 -- How large the numbers of a step are: what the code's proofs go by where a value has to fit its width.
 -- Assumes nothing.
+use mathlib.Core.Path.{_≡_}
 use mathlib.Core.Bool.{Bool, true, false, cond}
 use mathlib.Core.List.{List, [], _∷_}
 use Prim.Native.Nat.{ℕ, zero, suc, _+_, _*_, _/_, _≤_}
@@ -22,9 +23,9 @@ unfolding entriesOf
 entries-small va vb h k =
     omega (arith, abs-* (pos 3547) va, abs-* (pos 2048) vb, abs-* (pos 2) (B vb), abs-+ (A va) (B vb), abs-- (B vb) (A va))
 
-pub bit-le : (v : ℤ) (w : ℕ) → bit v w ≤ w
+pub bit-le : {r : ℕ} (v : ℤ) (w : ℕ) → r ≡ bit v w → r ≤ w
 unfolding bit
-bit-le v w = by (ltZ (pos 0) v)
+bit-le v w e = rw e (by (ltZ (pos 0) v))
   where
     by : (t : Bool) → cond t w 0 ≤ w
     by true = omega arith

@@ -107,27 +107,17 @@ module _ (x e : ℤ) (g : Gains) (limit : ℤ) (lawful : Lawful g) (l1 : pos 1 �
   -- a negative error: the output is below the upper limit
   pub leaves-top : x ≤ℤ limit → e <ℤ pos 0 → out <ℤ limit
   unfolding outOf sumOf
-  leaves-top k h = held-cases (λ z. z <ℤ limit) _ (negℤ limit) limit
-      (λ a. omega (arith, order, P-neg limit, N-neg limit))
-      (λ a b. absurd (no b))
-      (λ a b. below)
-    where
-      below : (x +ℤ down (e *ℤ g .kp) (pos 4096)) <ℤ limit
-      below = omega (arith, order, down-lt (e *ℤ g .kp) (pos 4096) (pos 0) (ltZ-yes tt) (*-neg-pos h (lawful .kp-lo)), parts-+ x (down (e *ℤ g .kp) (pos 4096)))
-
-      no : limit <ℤ (x +ℤ down (e *ℤ g .kp) (pos 4096)) → ⊥
-      no b = omega (arith, order, below)
+  leaves-top k h =
+      let s = down (e *ℤ g .kp) (pos 4096) in
+      let below : (x +ℤ s) <ℤ limit = omega (arith, order, down-lt (e *ℤ g .kp) (pos 4096) (pos 0) (ltZ-yes tt) (*-neg-pos h (lawful .kp-lo)), parts-+ x s) in
+      held-cases (λ z. z <ℤ limit) (x +ℤ s) (negℤ limit) limit (λ a. omega (arith, order, P-neg limit, N-neg limit))
+      (λ a b. absurd (omega (arith, order))) (λ a b. below)
 
   -- an error worth a count: the output is above the lower limit
   pub leaves-bottom : negℤ limit ≤ℤ x → pos 4096 ≤ℤ (e *ℤ g .kp) → negℤ limit <ℤ out
   unfolding outOf sumOf
-  leaves-bottom k h = held-cases (λ z. negℤ limit <ℤ z) _ (negℤ limit) limit
-      (λ a. absurd (no a))
-      (λ a b. omega (arith, order, P-neg limit, N-neg limit))
-      (λ a b. above)
-    where
-      above : negℤ limit <ℤ (x +ℤ down (e *ℤ g .kp) (pos 4096))
-      above = omega (arith, order, le-down (e *ℤ g .kp) (pos 4096) (pos 1) (ltZ-yes tt) h, parts-+ x (down (e *ℤ g .kp) (pos 4096)))
-
-      no : (x +ℤ down (e *ℤ g .kp) (pos 4096)) <ℤ negℤ limit → ⊥
-      no b = omega (arith, order, above)
+  leaves-bottom k h =
+      let s = down (e *ℤ g .kp) (pos 4096) in
+      let above : negℤ limit <ℤ (x +ℤ s) = omega (arith, order, le-down (e *ℤ g .kp) (pos 4096) (pos 1) (ltZ-yes tt) h, parts-+ x s) in
+      held-cases (λ z. negℤ limit <ℤ z) (x +ℤ s) (negℤ limit) limit (λ a. absurd (omega (arith, order)))
+      (λ a b. omega (arith, order, P-neg limit, N-neg limit)) (λ a b. above)

@@ -1,6 +1,5 @@
 -- What every use of the regulator keeps: output and integral within the limits, and so of their size.
 -- Assumes nothing.
-use mathlib.Core.Path.{_≡_}
 use lib.IntN.{ℤ, pos, negℤ}
 use lib.Signed.{_≤ℤ_}
 use Rattle.fixed.proofs.HeldLaws.{within-lo, within-hi, within-yes}

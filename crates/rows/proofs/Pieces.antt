@@ -1,7 +1,7 @@
 -- A run in two pieces is the run: rows after others, from the drive that these leave. So whoever has more rows than room may run them in
 -- batches.
 -- Assumes nothing.
-use mathlib.Core.Path.{_≡_, refl, sym, _∙_, ap}
+use mathlib.Core.Path.{_≡_, refl, sym, _∙_}
 use mathlib.Core.Bool.{true, false}
 use mathlib.Core.List.{List, _++_, append-nil, append-assoc}
 use Prim.Native.Nat.{ℕ, zero, suc, _+_, _*_, _≤_, _<_}
@@ -32,18 +32,6 @@ joined-after : (r q : Ran) (s : Stepped) → afterRow (joined r q) s ≡ joined 
 unfolding afterRow
 joined-after r q s = simp add-assoc
 
--- one row more
-abbrev more : Ran → List ℤ → ℕ → Ran
-more r samples i = afterRow r (rowStepped (r .drive) samples i)
-
-ran-none : (d : Drive) (samples : List ℤ) → ranOf d samples zero ≡ noRows d (pos 0)
-unfolding ranOf
-ran-none d samples = refl
-
-ran-more : (d : Drive) (samples : List ℤ) (i : ℕ) → ranOf d samples (suc i) ≡ more (ranOf d samples i) samples i
-unfolding ranOf
-ran-more d samples i = refl
-
 number-0 : (d : Drive) (samples : List ℤ) (n : ℕ) → ranOf d samples n .number ≡ pos 0
 unfolding ranOf noRows afterRow
 number-0 d samples zero = refl
@@ -58,7 +46,7 @@ module _ (s t : List ℤ) (n : ℕ) (h : length s ≡ 3 * n) where
       let a = List·getD-append s t (pos 0) (3 * i) (omega arith) in
       let b = List·getD-append s t (pos 0) (3 * i + 1) (omega arith) in
       let e = List·getD-append s t (pos 0) (3 * i + 2) (omega arith) in
-      rw (a, b, e) refl
+      rw (a, b, e)
 
   -- the others off t
   late : (c : Drive) (i : ℕ) → rowStepped c (s ++ t) (n + i) ≡ rowStepped c t i
@@ -67,37 +55,36 @@ module _ (s t : List ℤ) (n : ℕ) (h : length s ≡ 3 * n) where
       let p : 3 * (n + i) ≡ length s + 3 * i = omega arith in
       let q : length s + 3 * i + 1 ≡ length s + (3 * i + 1) = omega arith in
       let r : length s + 3 * i + 2 ≡ length s + (3 * i + 2) = omega arith in
-      rw (p, q, r, getD-append-add s t (3 * i) (pos 0), getD-append-add s t (3 * i + 1) (pos 0), getD-append-add s t (3 * i + 2) (pos 0)) refl
+      rw (p, q, r, getD-append-add s t (3 * i) (pos 0), getD-append-add s t (3 * i + 1) (pos 0), getD-append-add s t (3 * i + 2) (pos 0))
 
   module _ (d : Drive) where
+    -- among the first n rows
+    early-more : (i : ℕ) → i < n → ranOf d (s ++ t) i ≡ ranOf d s i → ranOf d (s ++ t) (suc i) ≡ ranOf d s (suc i)
+    unfolding ranOf
+    early-more i l e = rw (e, early (ranOf d s i .drive) i l)
+
     ran-early : (i : ℕ) → i ≤ n → ranOf d (s ++ t) i ≡ ranOf d s i
-    ran-early zero l = ran-none d (s ++ t) ∙ sym (ran-none d s)
-    ran-early (suc i) l =
-        let r = ranOf d s i in
-        ran-more d (s ++ t) i
-        ∙ ap (λ (q : Ran). more q (s ++ t) i) (ran-early i (omega arith))
-        ∙ ap (afterRow r) (early (r .drive) i (omega arith))
-        ∙ sym (ran-more d s i)
+    unfolding ranOf
+    ran-early zero l = refl
+    ran-early (suc i) l = early-more i (omega arith) (ran-early i (omega arith))
 
     written-early : (i : ℕ) → i ≤ n → writtenOf d (s ++ t) i ≡ writtenOf d s i
     unfolding writtenOf
     written-early zero l = refl
-    written-early (suc i) l = rw (written-early i (omega arith), ran-early i (omega arith), early (ranOf d s i .drive) i (omega arith)) refl
+    written-early (suc i) l = rw (written-early i (omega arith), ran-early i (omega arith), early (ranOf d s i .drive) i (omega arith))
 
     -- the drive and the counts
-    pub ran-in-pieces : (m : ℕ) → ranOf d (s ++ t) (n + m) ≡ joined (ranOf d s n) (ranOf (ranOf d s n .drive) t m)
-    ran-in-pieces zero =
-        let r = ranOf d s n in
-        rw (add-zero n, ran-none (r .drive) t) (ran-early n (omega arith) ∙ joined-none r (number-0 d s n))
-    ran-in-pieces (suc m) =
-        let r = ranOf d s n in
+    late-more : (m : ℕ) (r : Ran) → ranOf d (s ++ t) (n + m) ≡ joined r (ranOf (r .drive) t m) →
+        ranOf d (s ++ t) (n + suc m) ≡ joined r (ranOf (r .drive) t (suc m))
+    unfolding ranOf
+    late-more m r e =
         let q = ranOf (r .drive) t m in
-        ap (ranOf d (s ++ t)) (add-suc n m)
-        ∙ ran-more d (s ++ t) (n + m)
-        ∙ ap (λ (p : Ran). more p (s ++ t) (n + m)) (ran-in-pieces m)
-        ∙ ap (afterRow (joined r q)) (late (q .drive) m)
-        ∙ joined-after r q (rowStepped (q .drive) t m)
-        ∙ ap (joined r) (sym (ran-more (r .drive) t m))
+        rw (add-suc n m, e, late (q .drive) m) (joined-after r q (rowStepped (q .drive) t m))
+
+    pub ran-in-pieces : (m : ℕ) → ranOf d (s ++ t) (n + m) ≡ joined (ranOf d s n) (ranOf (ranOf d s n .drive) t m)
+    unfolding ranOf
+    ran-in-pieces zero = rw (add-zero n) (ran-early n (omega arith) ∙ joined-none (ranOf d s n) (number-0 d s n))
+    ran-in-pieces (suc m) = late-more m (ranOf d s n) (ran-in-pieces m)
 
     -- the numbers written
     pub written-in-pieces : (m : ℕ) → writtenOf d (s ++ t) (n + m) ≡ writtenOf d s n ++ writtenOf (ranOf d s n .drive) t m

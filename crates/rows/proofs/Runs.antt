@@ -1,4 +1,4 @@
--- A run's loop, over plain numbers and lists: what stands after i rows, at the start, and after one row more.
+-- A run's loop, over plain numbers and lists: what stands after i rows, and after one row more.
 -- Assumes nothing.
 use mathlib.Core.Path.{_≡_, refl, _∙_, ap}
 use mathlib.Core.Bool.{Bool, true, false}
@@ -46,19 +46,6 @@ pub record Upto (d : Drive) (samples o : List ℤ) (n : ℕ) (out : List ℤ) (c
   pub wrote : out ≡ writtenOf d samples i ++ drop (4 * i) o
   pub small : 4 * n < 2 ^ 63
 
-pub start : (d : Drive) (samples o : List ℤ) (n : ℕ) → Sound d → 4 * n < 2 ^ 63 → Upto d samples o n o d 0 0 0
-unfolding ranOf noRows writtenOf
-start d samples o n h l = record {
-  low = omega arith;
-  is-sound = h;
-  ran = refl;
-  few = omega arith;
-  fewer = omega arith;
-  long = refl;
-  wrote = refl;
-  small = l;
-}
-
 -- one row more, with the step s and the list that its four numbers leave
 module _ {d : Drive} {samples o out : List ℤ} {n : ℕ} {cur : Drive} {accepted clipped i : ℕ} (u : Upto d samples o n out cur accepted clipped i) where
   pub more : (s : Stepped) (next : List ℤ) (at cl : ℕ) → i < n → s ≡ rowStepped cur samples i →
@@ -67,10 +54,9 @@ module _ {d : Drive} {samples o out : List ℤ} {n : ℕ} {cur : Drive} {accepte
       Upto d samples o n next (s .drive) (accepted + at) (clipped + cl) (i + 1)
   unfolding ranOf afterRow writtenOf four
   more s next at cl h es en el ea ec =
-      let e : s ≡ rowStepped (ranOf d samples i .drive) samples i = es ∙ ap (λ (r : Ran). rowStepped (r .drive) samples i) (u .ran) in
+      let e : s ≡ rowStepped (ranOf d samples i .drive) samples i = rw (← u .ran) es in
       let m : 4 * i + 4 ≡ 4 * (i + 1) = omega arith in
       let f = next-four (s .pulses .a) (s .pulses .b) (s .pulses .c) (s .number) (writtenOf d samples i) o (4 * i) (written-length d samples i) in
-      let g = en ∙ ap (λ (l : List ℤ). take (4 * i) l ++ (four s ++ drop (4 * i + 4) l)) (u .wrote) ∙ f in
       record {
         low = omega arith;
         is-sound = rw es (row-sound cur samples i (u .is-sound));
@@ -78,6 +64,6 @@ module _ {d : Drive} {samples o out : List ℤ} {n : ℕ} {cur : Drive} {accepte
         few = omega (arith, u .few, ea, one-most (isAccepted s));
         fewer = omega (arith, u .fewer, ec, one-most (isClipped s));
         long = el ∙ u .long;
-        wrote = rw (← m) (rw add-one (rw (← e) g));
+        wrote = rw (← m, add-one, ← e) ((rw (u .wrote) at en) ∙ f);
         small = u .small;
       }

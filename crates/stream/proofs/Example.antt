@@ -9,7 +9,7 @@ use Rattle.settings.specs.BenchSettings.{benchSettings}
 use Rattle.drive.specs.Calls.{fresh, refused}
 use Rattle.drive.proofs.AtBench.{first, second, third}
 use Rattle.rows.specs.Rows.{rowStepped, four, isAccepted, isClipped}
-use Rattle.text.specs.Grammar.{allDigits, valueOf, digitsOf, fitting, numberOf, cut, both, numbersOf, lineOf}
+use Rattle.text.specs.Grammar.{allDigits, valueOf, digitsOf, fitting, numberOf, wordsIn, both, numbersOf, lineOf}
 use Rattle.text.specs.Decimal.{decimal, countText, textOf, moreText, numbersText, lineText}
 use Rattle.feeding.specs.Lines.{linesOf, restOf, any, ifFits, goodIn, goodThen, goodOf, badOr, badOf, goodLines, endsBad, afterAll, answersTo}
 use Rattle.feeding.specs.Feeding.{joined}
@@ -39,7 +39,7 @@ output =
 rows-read :
     (goodLines isRow input ≡ (pos 0 ∷ pos 0 ∷ pos 0 ∷ []) ∷ (pos 9000 ∷ pos 0 ∷ pos 0 ∷ []) ∷ (pos 0 ∷ pos 0 ∷ pos 0 ∷ []) ∷ [])
     × (endsBad isRow input ≡ false)
-unfolding linesOf restOf goodOf goodThen badOf badOr any goodIn ifFits isRow lineOf numbersOf numberOf both cut fitting digitsOf allDigits valueOf
+unfolding linesOf restOf goodOf goodThen badOf badOr any goodIn ifFits isRow lineOf numbersOf numberOf both wordsIn fitting digitsOf allDigits valueOf
 rows-read = (refl, refl)
 
 -- row by row: the first is taken, the second trips the drive, and the third finds it tripped

@@ -2,14 +2,21 @@
 -- Assumes nothing.
 use mathlib.Core.Path.{_≡_, refl}
 use mathlib.Core.Bool.{Bool, true, false}
-use mathlib.Core.Logic.{_⊎_, inl, inr, ⊎-elim}
+use mathlib.Core.Logic.{_⊎_, inl, inr}
 use Prim.Native.Nat.{ℕ, _≤_, _<_}
 use lib.Dec.{ltb}
 use borrow.Author.Tests.{ltb-true, ltb-false}
 
-pub true-or-false : (b : Bool) → (b ≡ true) ⊎ (b ≡ false)
-true-or-false true = inl refl
-true-or-false false = inr refl
+pub by-test : {C : Type 0} (t : Bool) → (t ≡ true → C) → (t ≡ false → C) → C
+by-test true f g = f refl
+by-test false f g = g refl
+
+pub by-order : {C : Type 0} (m n : ℕ) → (m < n → C) → (n ≤ m → C) → C
+by-order m n f g = by-test (ltb m n) (λ e. f (ltb-true m n e)) (λ e. g (ltb-false m n e))
+
+-- the same as a choice of two
+pub true-or-false : (t : Bool) → (t ≡ true) ⊎ (t ≡ false)
+true-or-false t = by-test t inl inr
 
 pub less-or-not : (m n : ℕ) → (m < n) ⊎ (n ≤ m)
-less-or-not m n = ⊎-elim (λ e. inl (ltb-true m n e)) (λ e. inr (ltb-false m n e)) (true-or-false (ltb m n))
+less-or-not m n = by-order m n inl inr

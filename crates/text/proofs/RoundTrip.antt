@@ -1,11 +1,10 @@
 -- What is written is read back: the text of a number of 32 bits is that number's word, and that of numbers is their line.
 -- Assumes nothing.
-use mathlib.Core.Path.{_≡_, refl, ap, _∙_}
-use mathlib.Core.Bool.{Bool, true, false}
+use mathlib.Core.Path.{_≡_, refl, _∙_}
+use mathlib.Core.Bool.{true, false}
 use mathlib.Core.List.{List, [], _∷_, _++_, map, append-assoc, append-nil}
-use mathlib.Core.Logic.{⊎-elim}
-use mathlib.Core.Option.{none, some}
-use Prim.Native.Nat.{ℕ, zero, suc, _+_, _-_, _*_, _/_, _^_, _≤_, _<_}
+use mathlib.Core.Option.{some}
+use Prim.Native.Nat.{ℕ, suc, _+_, _-_, _*_, _^_, _≤_, _<_}
 use native.Mathlib.Omega.{arith}
 use borrow.Author.Tests.{le-leb, ne-eqb, leb-true}
 use lib.Dec.{leb}
@@ -17,12 +16,10 @@ use Rattle.fixed.specs.Fixed.{within}
 use Rattle.fixed.proofs.Parts.{order}
 use Rattle.fixed.proofs.Size.{fits-hi, fits-lo}
 use Rattle.fixed.proofs.HeldLaws.{and-left, and-right, and-both, within-yes}
-use Rattle.text.specs.Grammar.{isDigit, allDigits, valueOf, digitsOf, signed, least, greatest, fitting, numberOf, cut, both, numbersOf, lineOf}
-use Rattle.text.specs.Decimal.{digitOf, decimal, countText, textOf, moreText, numbersText}
-use Rattle.text.proofs.Choice.{less-or-not}
-use Rattle.text.proofs.DecimalLaws.{decimal-one, decimal-more, tenth, length-more}
+use Rattle.text.specs.Grammar.{isDigit, allDigits, valueOf, digitsOf, least, greatest, fitting, numberOf, wordsIn, both, numbersOf, lineOf}
+use Rattle.text.specs.Decimal.{digitOf, countText, textOf, moreText, numbersText}
+use Rattle.text.proofs.DecimalLaws.{by-digits, tenth, length-more}
 use Rattle.text.proofs.LineLaws.{AllFit, nil, cons}
-use Rattle.text.proofs.Words.{cond-true, cond-false}
 
 -- ════ digits, and one more at the end
 digit-good : (n : ℕ) → isDigit (digitOf n) ≡ true
@@ -39,40 +36,30 @@ value-more n [] b = refl
 value-more n (a ∷ bs) b = value-more (n * 10 + (a - 48)) bs b
 
 -- ════ a count
-decimal-digits : (k n : ℕ) → allDigits (decimal k n) ≡ true
-unfolding decimal allDigits
-decimal-digits zero n = and-both (digit-good n) refl
-decimal-digits (suc k) n =
-    ⊎-elim (λ h. rw (decimal-one (suc k) n h) (and-both (digit-good n) refl))
-    (λ h. rw (decimal-more k n h) (all-more (decimal k (n / 10)) (digitOf n) (decimal-digits k (n / 10)) (digit-good n)))
-    (less-or-not n 10)
+count-digits : (n : ℕ) → allDigits (countText n) ≡ true
+unfolding countText allDigits
+count-digits n =
+    by-digits (λ k n ds. allDigits ds ≡ true) (λ k n e. and-both (digit-good n) refl) (λ k n ds l h. all-more ds (digitOf n) h (digit-good n)) 19 n
 
-one-value : (n : ℕ) → n < 10 → valueOf 0 (digitOf n ∷ []) ≡ n
-unfolding valueOf
-one-value n h = omega arith
-
-decimal-value : (k n : ℕ) → n < 10 ^ suc k → valueOf 0 (decimal k n) ≡ n
-decimal-value zero n h = rw (decimal-one zero n (omega (arith, h))) (one-value n (omega (arith, h)))
-decimal-value (suc k) n h =
-    ⊎-elim (λ l. rw (decimal-one (suc k) n l) (one-value n l))
-    (λ l. rw (decimal-more k n l) (value-more 0 (decimal k (n / 10)) (digitOf n) ∙ omega (arith, decimal-value k (n / 10) (tenth (suc k) n h))))
-    (less-or-not n 10)
+count-value : (n : ℕ) → n < 2 ^ 64 → valueOf 0 (countText n) ≡ n
+unfolding countText valueOf
+count-value n h =
+    by-digits (λ k n ds. n < 10 ^ suc k → valueOf 0 ds ≡ n) (λ k n e h. let l = e h in omega arith)
+    (λ k n ds l f h. value-more 0 ds (digitOf n) ∙ omega (arith, f (tenth (suc k) n h))) 19 n (omega arith)
 
 -- at least one digit
+count-some : (n : ℕ) → 0 < length (countText n)
+unfolding countText
+count-some n =
+    by-digits (λ k n ds. 0 < length ds) (λ k n e. omega arith) (λ k n ds l h. rw (length-more ds (digitOf n)) (omega arith)) 19 n
+
 digits-of : (bs : List ℕ) → 0 < length bs → allDigits bs ≡ true → digitsOf bs ≡ some (valueOf 0 bs)
 unfolding digitsOf
 digits-of [] h d = absurd (omega (arith, h))
-digits-of (b ∷ bs) h d = cond-true (some (valueOf 0 (b ∷ bs))) none d
-
-decimal-some : (k n : ℕ) → 0 < length (decimal k n)
-unfolding decimal
-decimal-some zero n = omega arith
-decimal-some (suc k) n =
-    ⊎-elim (λ h. rw (decimal-one (suc k) n h) (omega arith)) (λ h. rw (decimal-more k n h, length-more (decimal k (n / 10)) (digitOf n)) (omega arith)) (less-or-not n 10)
+digits-of (b ∷ bs) h d = rw d
 
 pub count-back : (n : ℕ) → n < 2 ^ 64 → digitsOf (countText n) ≡ some n
-unfolding countText
-count-back n h = digits-of (decimal 19 n) (decimal-some 19 n) (decimal-digits 19 n) ∙ ap some (decimal-value 19 n (omega arith))
+count-back n h = rw (digits-of (countText n) (count-some n) (count-digits n), count-value n h)
 
 -- ════ a number
 -- with digits in front there is no sign
@@ -81,50 +68,36 @@ unfolding numberOf allDigits digitsOf fitting
 no-sign [] d = refl
 no-sign (b ∷ bs) d =
     let h = leb-true 48 b (and-left (leb 48 b) (leb b 57) (and-left (isDigit b) (allDigits bs) d)) in
-    cond-false (fitting true (digitsOf bs)) (fitting false (digitsOf (b ∷ bs))) (ne-eqb b 45 (λ e. omega (arith, h, e)))
-
-fitting-yes : (m : Bool) (n : ℕ) → within least greatest (signed m n) ≡ true → fitting m (some n) ≡ some (signed m n)
-unfolding fitting
-fitting-yes m n h = cond-true (some (signed m n)) none h
+    rw (ne-eqb b 45 (λ e. omega arith))
 
 in-range : (z : ℤ) → SFits w32 z → within least greatest z ≡ true
 in-range z f = within-yes least greatest z (omega (arith, order, fits-lo w32 z f)) (omega (arith, order, fits-hi w32 z f))
 
-plain-digits : (n : ℕ) → allDigits (countText n) ≡ true
-unfolding countText
-plain-digits n = decimal-digits 19 n
-
 pub round-trip : (z : ℤ) → SFits w32 z → numberOf (textOf z) ≡ some z
-unfolding textOf numberOf
+unfolding textOf numberOf fitting
 round-trip (pos n) f =
-    no-sign (countText n) (plain-digits n)
-    ∙ ap (fitting false) (count-back n (omega (arith, f .sfits)))
-    ∙ fitting-yes false n (in-range (pos n) f)
-round-trip (negsuc n) f =
-    ap (fitting true) (count-back (suc n) (omega (arith, f .sfits)))
-    ∙ fitting-yes true (suc n) (in-range (negsuc n) f)
+    rw (no-sign (countText n) (count-digits n), count-back n (omega (arith, f .sfits)), in-range (pos n) f)
+round-trip (negsuc n) f = rw (count-back (suc n) (omega (arith, f .sfits)), in-range (negsuc n) f)
 
 -- ════ a line
 -- digits go to the word that is being cut, and so does a sign
-cut-digits : (w ds bs : List ℕ) → allDigits ds ≡ true → cut w (ds ++ bs) ≡ cut (w ++ ds) bs
-unfolding cut allDigits
+cut-digits : (w ds bs : List ℕ) → allDigits ds ≡ true → wordsIn w (ds ++ bs) ≡ wordsIn (w ++ ds) bs
+unfolding wordsIn allDigits
 cut-digits w [] bs h = rw (append-nil w) refl
 cut-digits w (d ∷ ds) bs h =
     let g = leb-true 48 d (and-left (leb 48 d) (leb d 57) (and-left (isDigit d) (allDigits ds) h)) in
-    cond-false (w ∷ cut [] (ds ++ bs)) (cut (w ++ (d ∷ [])) (ds ++ bs)) (ne-eqb d 32 (λ e. omega (arith, g, e)))
-    ∙ cut-digits (w ++ (d ∷ [])) ds bs (and-right (isDigit d) (allDigits ds) h)
-    ∙ ap (λ (v : List ℕ). cut v bs) (append-assoc w (d ∷ []) ds)
+    rw (ne-eqb d 32 (λ e. omega arith), cut-digits (w ++ (d ∷ [])) ds bs (and-right (isDigit d) (allDigits ds) h), append-assoc)
 
-cut-text : (z : ℤ) (bs : List ℕ) → cut [] (textOf z ++ bs) ≡ cut (textOf z) bs
-unfolding textOf cut
-cut-text (pos n) bs = cut-digits [] (countText n) bs (plain-digits n)
-cut-text (negsuc n) bs = cut-digits (45 ∷ []) (countText (suc n)) bs (plain-digits (suc n))
+cut-text : (z : ℤ) (bs : List ℕ) → wordsIn [] (textOf z ++ bs) ≡ wordsIn (textOf z) bs
+unfolding textOf wordsIn
+cut-text (pos n) bs = cut-digits [] (countText n) bs (count-digits n)
+cut-text (negsuc n) bs = cut-digits (45 ∷ []) (countText (suc n)) bs (count-digits (suc n))
 
 -- each number is a word
-cut-more : (w : List ℕ) (zs : List ℤ) → cut w (moreText zs) ≡ w ∷ map textOf zs
-unfolding moreText cut
+cut-more : (w : List ℕ) (zs : List ℤ) → wordsIn w (moreText zs) ≡ w ∷ map textOf zs
+unfolding moreText wordsIn
 cut-more w [] = refl
-cut-more w (z ∷ zs) = ap (λ (ws : List (List ℕ)). w ∷ ws) (cut-text z (moreText zs) ∙ cut-more (textOf z) zs)
+cut-more w (z ∷ zs) = rw (cut-text z (moreText zs), cut-more (textOf z) zs)
 
 words-back : {zs : List ℤ} → AllFit zs → numbersOf (map textOf zs) ≡ some zs
 unfolding numbersOf both
@@ -135,4 +108,4 @@ words-back (cons {z} {zs} f fs) = rw (round-trip z f, words-back fs) refl
 pub line-back : {zs : List ℤ} → 1 ≤ length zs → AllFit zs → lineOf (numbersText zs) ≡ some zs
 unfolding lineOf numbersText
 line-back h nil = absurd (omega (arith, h))
-line-back h (cons {z} {zs} f fs) = ap numbersOf (cut-text z (moreText zs) ∙ cut-more (textOf z) zs) ∙ words-back (cons f fs)
+line-back h (cons {z} {zs} f fs) = rw (cut-text z (moreText zs), cut-more (textOf z) zs) (words-back (cons f fs))

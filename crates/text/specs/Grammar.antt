@@ -53,9 +53,9 @@ numberOf (b ∷ bs) = cond (eqb b 45) (fitting true (digitsOf bs)) (fitting fals
 
 -- ════ a line
 -- w and then bs, cut at each space into words: two spaces, or one at an end, leave an empty word
-unfoldable pub cut : List ℕ → List ℕ → List (List ℕ)
-cut w [] = w ∷ []
-cut w (b ∷ bs) = cond (eqb b 32) (w ∷ cut [] bs) (cut (w ++ (b ∷ [])) bs)
+unfoldable pub wordsIn : List ℕ → List ℕ → List (List ℕ)
+wordsIn w [] = w ∷ []
+wordsIn w (b ∷ bs) = cond (eqb b 32) (w ∷ wordsIn [] bs) (wordsIn (w ++ (b ∷ [])) bs)
 
 unfoldable pub both : Option ℤ → Option (List ℤ) → Option (List ℤ)
 both none zs = none
@@ -69,4 +69,4 @@ numbersOf (w ∷ ws) = both (numberOf w) (numbersOf ws)
 
 -- the numbers of a line
 unfoldable pub lineOf : List ℕ → Option (List ℤ)
-lineOf bs = numbersOf (cut [] bs)
+lineOf bs = numbersOf (wordsIn [] bs)

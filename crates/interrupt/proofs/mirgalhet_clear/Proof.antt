@@ -4,7 +4,6 @@ use mathlib.Core.Path.{refl}
 use mathlib.Core.List.{[]}
 use base.Logic.{emp}
 use contract.Monad.{factI}
-use Rattle.drive.specs.declared.Answered.{Answered}
 use Rattle.drive.specs.Calls.{cleared}
 use Rattle.drive.proofs.clear.Symbol as clear
 use Rattle.drive.proofs.clear.Met as clear-thm
@@ -24,7 +23,7 @@ pub mirgalhet-clear-spec : {M : Type 1} → stated.statement M
 unfolding code.routine
 mirgalhet-clear-spec 𝓤 H 𝓜 𝓖 𝓡 =
     changes drive [] (struct answered) number 𝓤 H 𝓜 𝓖 𝓡
-    (λ a. cleared (a .0)) (λ (s : Answered). s .drive) (λ (s : Answered). s .number)
+    (λ a. cleared (a .0)) (λ s. s .drive) (λ s. s .number)
     (place.clauses 𝓤 H (𝓖 .A) (𝓜 .mem) (𝓡 .run)) (λ κs a g. factI 𝓤 _ (emp 𝓤) (refl, refl))
     code.env name clear.name next.name out.name (code.unfolded 𝓤 H 𝓜 𝓡)
     clear.routine code.calls-drive·clear (clear-thm.met 𝓤 H 𝓜 𝓖 𝓡)

@@ -4,7 +4,6 @@ use mathlib.Core.Path.{refl}
 use mathlib.Core.List.{[], _∷_}
 use base.Logic.{emp}
 use contract.Monad.{factI}
-use Rattle.drive.specs.declared.Answered.{Answered}
 use Rattle.interrupt.specs.Interrupt.{started}
 use Rattle.interrupt.proofs.started.Symbol as start
 use Rattle.interrupt.proofs.started.Met as start-thm
@@ -24,7 +23,7 @@ pub mirgalhet-start-spec : {M : Type 1} → stated.statement M
 unfolding code.routine
 mirgalhet-start-spec 𝓤 H 𝓜 𝓖 𝓡 =
     changes drive (struct settings ∷ []) (struct answered) number 𝓤 H 𝓜 𝓖 𝓡
-    (λ a. started (a .0) (a .1 .0)) (λ (s : Answered). s .drive) (λ (s : Answered). s .number)
+    (λ a. started (a .0) (a .1 .0)) (λ s. s .drive) (λ s. s .number)
     (place.clauses 𝓤 H (𝓖 .A) (𝓜 .mem) (𝓡 .run)) (λ κs a g. factI 𝓤 _ (emp 𝓤) (refl, refl))
     code.env name start.name next.name out.name (code.unfolded 𝓤 H 𝓜 𝓡)
     start.routine code.calls-interrupt·started (start-thm.met 𝓤 H 𝓜 𝓖 𝓡)

@@ -4,7 +4,6 @@ use mathlib.Core.Path.{refl}
 use mathlib.Core.List.{[], _∷_}
 use base.Logic.{emp}
 use contract.Monad.{factI}
-use Rattle.stages.specs.declared.Stepped.{Stepped}
 use Rattle.drive.specs.Calls.{stepped as steppedOf}
 use Rattle.drive.proofs.step.Symbol as step
 use Rattle.drive.proofs.step.Met as step-thm
@@ -25,7 +24,7 @@ pub mirgalhet-step-spec : {M : Type 1} → stated.statement M
 unfolding code.routine
 mirgalhet-step-spec 𝓤 H 𝓜 𝓖 𝓡 =
     changes drive (number ∷ number ∷ number ∷ []) (struct stepped) (struct output) 𝓤 H 𝓜 𝓖 𝓡
-    (λ a. steppedOf (a .0) (a .1 .0) (a .1 .1 .0) (a .1 .1 .1 .0)) (λ (s : Stepped). s .drive) outputOf
+    (λ a. steppedOf (a .0) (a .1 .0) (a .1 .1 .0) (a .1 .1 .1 .0)) (λ s. s .drive) outputOf
     (place.clauses 𝓤 H (𝓖 .A) (𝓜 .mem) (𝓡 .run)) (λ κs a g. factI 𝓤 _ (emp 𝓤) (refl, refl))
     code.env name step.name next.name out.name (code.unfolded 𝓤 H 𝓜 𝓡)
     step.routine code.calls-drive·step (step-thm.met 𝓤 H 𝓜 𝓖 𝓡)

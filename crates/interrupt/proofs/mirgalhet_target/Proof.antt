@@ -4,7 +4,6 @@ use mathlib.Core.Path.{refl}
 use mathlib.Core.List.{[], _∷_}
 use base.Logic.{emp}
 use contract.Monad.{factI}
-use Rattle.drive.specs.declared.Answered.{Answered}
 use Rattle.drive.specs.Calls.{targeted}
 use Rattle.drive.proofs.target.Symbol as target
 use Rattle.drive.proofs.target.Met as target-thm
@@ -24,7 +23,7 @@ pub mirgalhet-target-spec : {M : Type 1} → stated.statement M
 unfolding code.routine
 mirgalhet-target-spec 𝓤 H 𝓜 𝓖 𝓡 =
     changes drive (number ∷ []) (struct answered) number 𝓤 H 𝓜 𝓖 𝓡
-    (λ a. targeted (a .0) (a .1 .0)) (λ (s : Answered). s .drive) (λ (s : Answered). s .number)
+    (λ a. targeted (a .0) (a .1 .0)) (λ s. s .drive) (λ s. s .number)
     (place.clauses 𝓤 H (𝓖 .A) (𝓜 .mem) (𝓡 .run)) (λ κs a g. factI 𝓤 _ (emp 𝓤) (refl, refl))
     code.env name target.name next.name out.name (code.unfolded 𝓤 H 𝓜 𝓡)
     target.routine code.calls-drive·target (target-thm.met 𝓤 H 𝓜 𝓖 𝓡)

@@ -6,12 +6,6 @@ use Rattle.fixed.proofs.Reading.{answer}
 use Rattle.interrupt.proofs.started.Statement.{statement}
 use Rattle.interrupt.proofs.started.Tie as tie
 
-enum-known-m : tie.Need-enum-known-m
-enum-known-m c = search needs
-
-enum-told : tie.Need-enum-told
-enum-told c = search needs
-
 returns : tie.Need-returns
 returns c =
     let m = c .before .enum-told .given in
@@ -21,4 +15,4 @@ returns-2 : tie.Need-returns-2
 returns-2 c = let m = c .before .m .given in simp (sym (c .before .before .before .make .ensures), m .1)
 
 pub started-spec : {M : Type 1} → statement M
-started-spec = tie.close (tie.spec (λ c κs. tt) enum-known-m enum-told (λ c κs. tt) returns returns-2)
+started-spec = tie.close (tie.spec (λ c κs. tt) (λ c. search needs) (λ c. search needs) (λ c κs. tt) returns returns-2)

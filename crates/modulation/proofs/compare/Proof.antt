@@ -1,11 +1,10 @@
 -- `modulation::compare` meets its contract: the code works the three compares out one from the other, and gives the one at its place.
 -- Assumes nothing.
 use borrow.Author.Needs.{needs}
-use mathlib.Core.Path.{_≡_, refl, ap, sym, _∙_}
+use mathlib.Core.Path.{_≡_, refl, _∙_}
 use Prim.Native.Nat.{ℕ, zero, suc, _+_, _/_}
 use lib.IntN.{ℤ, _+ℤ_, _-ℤ_}
 use mir.Syntax.{w32, w64}
-use Rattle.fixed.specs.Fixed.{down}
 use Rattle.fixed.proofs.Reading.{Reads, m32, m64, sized, plus, minus, lowered, stored, fits}
 use Rattle.modulation.specs.Modulation.{compareAt, longest}
 use Rattle.modulation.proofs.compare.Statement.{statement}
@@ -41,9 +40,6 @@ unfolding compareAt
 third c = plus (stored w32 (second c) tt) (sized (c .before .fits .t2) (c .before .pre .2))
 
 -- which of them
-found : (s : tie.Start) (k : ℕ) → s .args .k ≡ k → at k s ≡ at (s .args .k) s
-found s k e = ap (λ (k : ℕ). at k s) (sym e)
-
 past : (s : tie.Start) (k : ℕ) → (k ≡ 0 → ⊥) → (k ≡ 1 → ⊥) → at 2 s ≡ at k s
 unfolding compareAt
 past s zero h0 h1 = absurd (h0 refl)
@@ -51,50 +47,20 @@ past s (suc zero) h0 h1 = absurd (h1 refl)
 past s (suc (suc k)) h0 h1 = refl
 
 returns : tie.Need-returns
-returns c = first (c .before) .is ∙ found (c .before .before) 0 (c .if1 .taken)
+returns c = rw (c .if1 .taken) (first (c .before) .is)
 
 returns-2 : tie.Need-returns-2
-returns-2 c = stored w32 (second (c .before .before)) tt .is ∙ found (c .before .before .before) 1 (c .if2 .taken)
+returns-2 c = rw (c .if2 .taken) (stored w32 (second (c .before .before)) tt .is)
 
 returns-3 : tie.Need-returns-3
 returns-3 c =
     let s = c .before .before .before in
     stored w32 (third (c .before .before)) tt .is ∙ past s (s .args .k) (c .before .if1 .left) (c .if2 .left)
 
--- that all of it fits
-sub-down : tie.Need-sub-down
-sub-down c = fits (less-one c) tt
-
-sub-down-2 : tie.Need-sub-down-2
-sub-down-2 c = fits (rest c) tt
-
-cast-down : tie.Need-cast-down
-cast-down c = fits (stored w32 (rest c) tt) tt
-
-cast-first : tie.Need-cast-first
-cast-first c = fits (wide c) tt
-
-add-result : tie.Need-add-result
-add-result c = fits (second (c .before .before)) tt
-
-add-result-2 : tie.Need-add-result-2
-add-result-2 c = fits (second (c .before .before)) tt
-
-add-result-3 : tie.Need-add-result-3
-add-result-3 c = fits (third (c .before .before)) tt
-
+-- the rest is that each of them fits
 pub compare-spec : {M : Type 1} → statement M
 compare-spec =
     tie.close
-    (tie.spec
-    sub-down
-    sub-down-2
-    cast-down
-    (λ c κs. search needs)
-    cast-first
-    add-result
-    add-result-2
-    add-result-3
-    returns
-    returns-2
-    returns-3)
+    (tie.spec (λ c. fits (less-one c) tt) (λ c. fits (rest c) tt) (λ c. fits (stored w32 (rest c) tt) tt) (λ c κs. search needs) (λ c. fits (wide c) tt)
+    (λ c. fits (second (c .before .before)) tt) (λ c. fits (second (c .before .before)) tt) (λ c. fits (third (c .before .before)) tt)
+    returns returns-2 returns-3)

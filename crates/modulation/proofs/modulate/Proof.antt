@@ -1,16 +1,14 @@
 -- `modulation::modulate` meets its contract: what the calls give, one after the other, is what the definition names.
 -- Assumes nothing.
 use borrow.Author.Needs.{needs}
-use mathlib.Core.Path.{_≡_, ap, ap₂, sym, subst, _∙_}
-use Prim.Native.Nat.{ℕ}
+use mathlib.Core.Path.{_≡_, ap, ap₂, _∙_}
 use lib.IntN.{ℤ}
 use mir.Syntax.{w32}
 use Rattle.fixed.proofs.Equal.{ap₃}
 use Rattle.fixed.proofs.Reading.{Reads, m32, sized, result, stored, bound}
 use Rattle.modulation.specs.declared.Entries.{Entries}
 use Rattle.modulation.specs.declared.Sector.{Sector}
-use Rattle.modulation.specs.declared.Times.{Times}
-use Rattle.modulation.specs.Modulation.{entriesOf, sectorNumber, sectorAt, sectorOf, timeOf, clippedTimes, timesOf, placed, modulated, longest, entryEnd, Period, Small, Room}
+use Rattle.modulation.specs.Modulation.{entriesOf, sectorNumber, sectorOf, timeOf, clippedTimes, timesOf, placed, modulated, longest, entryEnd, Small}
 use Rattle.modulation.proofs.Sizes.{Sized, entries-small, sector-sized, time-size}
 use Rattle.modulation.proofs.Compares.{times-room}
 use Rattle.modulation.proofs.modulate.Statement.{statement}
@@ -41,11 +39,7 @@ sized-at s = sector-sized (sectorNumber (entriesAt s)) (entriesAt s) (small-at s
 
 sector-is : (c : tie.After-sector-at) → c .sector-at .result ≡ sectorFor (c .before .before .before)
 unfolding sectorOf
-sector-is c =
-    let e = c .before .before in
-    c .sector-at .ensures
-    ∙ ap (λ (n : ℕ). sectorAt n (e .entries-of .result)) (c .before .sector-number .ensures)
-    ∙ ap (λ (e : Entries). sectorAt (sectorNumber e) e) (entries-is e)
+sector-is c = rw (← entries-is (c .before .before), ← c .before .sector-number .ensures) (c .sector-at .ensures)
 
 one : (c : tie.After-sector-at) → Reads (m32 (c .sector-at .result .t1)) (sectorFor (c .before .before .before) .t1) entryEnd
 one c = stored w32 (result (ap (λ (r : Sector). r .t1) (sector-is c)) (sized-at (c .before .before .before) .one)) tt
@@ -53,38 +47,25 @@ one c = stored w32 (result (ap (λ (r : Sector). r .t1) (sector-is c)) (sized-at
 two : (c : tie.After-sector-at) → Reads (m32 (c .sector-at .result .t2)) (sectorFor (c .before .before .before) .t2) entryEnd
 two c = stored w32 (result (ap (λ (r : Sector). r .t2) (sector-is c)) (sized-at (c .before .before .before) .two)) tt
 
--- ════ the times
-abbrev oneFor : tie.Start → ℤ
-oneFor s = timeOf (s .args .t) (sectorFor s .t1)
+-- ════ the times: what `time` gave of the reading of an entry
+timed : (s : tie.Start) {o u e : ℤ} → o ≡ timeOf (m32 (s .args .t)) u → Reads u e entryEnd → Reads (m32 o) (timeOf (s .args .t) e) 100000
+timed s {e = e} is r =
+    stored w32 (result (is ∙ ap₂ timeOf (period s .is) (r .is)) (time-size (s .args .t) e (s .pre .0 .size) (r .size))) tt
 
-abbrev twoFor : tie.Start → ℤ
-twoFor s = timeOf (s .args .t) (sectorFor s .t2)
+time-one : (c : tie.After-time) →
+    let s = c .before .before .before .before .before in Reads (m32 (c .time .result)) (timeOf (s .args .t) (sectorFor s .t1)) 100000
+time-one c = timed (c .before .before .before .before .before) (c .time .ensures) (one (c .before .before))
 
-time-one : (c : tie.After-time) → Reads (m32 (c .time .result)) (oneFor (c .before .before .before .before .before)) 100000
-time-one c =
-    let r = c .before .before in
-    let s = r .before .before .before in
-    stored w32
-    (result (c .time .ensures ∙ ap₂ timeOf (period s .is) (one r .is)) (time-size (s .args .t) (sectorFor s .t1) (s .pre .0 .size) (sized-at s .one)))
-    tt
+time-two : (c : tie.After-time2) →
+    let s = c .before .before .before .before .before .before .before in Reads (m32 (c .time2 .result)) (timeOf (s .args .t) (sectorFor s .t2)) 100000
+time-two c = timed (c .before .before .before .before .before .before .before) (c .time2 .ensures) (two (c .before .before .before .before))
 
-time-two : (c : tie.After-time2) → Reads (m32 (c .time2 .result)) (twoFor (c .before .before .before .before .before .before .before)) 100000
-time-two c =
-    let r = c .before .before .before .before in
-    let s = r .before .before .before in
-    stored w32
-    (result (c .time2 .ensures ∙ ap₂ timeOf (period s .is) (two r .is)) (time-size (s .args .t) (sectorFor s .t2) (s .pre .0 .size) (sized-at s .two)))
-    tt
-
-abbrev timesFor : tie.Start → Times
-timesFor s = timesOf (s .args .t) (sectorFor s)
-
-times-is : (c : tie.After-clip) → c .clip .result ≡ timesFor (c .before .before .before .before .before .before .before .before)
+times-is : (c : tie.After-clip) →
+    let s = c .before .before .before .before .before .before .before .before in c .clip .result ≡ timesOf (s .args .t) (sectorFor s)
 unfolding timesOf
 times-is c =
-    let k = c .before in
-    let s = k .before .before .before .before .before .before .before in
-    c .clip .ensures ∙ ap₃ clippedTimes (period s .is) (time-one (k .before .before) .is) (time-two k .is)
+    let o = c .before .before .before in
+    c .clip .ensures ∙ ap₃ clippedTimes (period (o .before .before .before .before .before) .is) (time-one o .is) (time-two (c .before) .is)
 
 -- ════ the compares
 returns : tie.Need-returns
@@ -92,12 +73,11 @@ unfolding modulated
 returns c =
     let k = c .before in
     let r = k .before .before .before .before .before in
-    let s = r .before .before .before in
-    c .place .ensures ∙ ap₃ placed (period s .is) (sector-is r) (times-is k)
+    c .place .ensures ∙ ap₃ placed (period (r .before .before .before) .is) (sector-is r) (times-is k)
 
 -- ════ what the calls require
 small : (c : tie.After-entries-of) → Small (c .entries-of .result)
-small c = subst Small (sym (entries-is c)) (small-at (c .before))
+small c = rw (entries-is c) (small-at (c .before))
 
 time-requires : tie.Need-time-requires
 time-requires c κs = (bound (period (c .before .before .before .before)) tt, bound (one (c .before)) tt)
@@ -109,23 +89,14 @@ time-requires-2 c κs =
 clip-requires : tie.Need-clip-requires
 clip-requires c κs =
     let s = c .before .before .before .before .before .before .before in
-    (subst Period (sym (period s .is)) (s .pre .0), bound (time-one (c .before .before)) tt, bound (time-two c) tt)
+    rw (period s .is) (s .pre .0, bound (time-one (c .before .before)) tt, bound (time-two c) tt)
 
 place-requires : tie.Need-place-requires
 place-requires c κs =
     let s = c .before .before .before .before .before .before .before .before in
-    subst (λ (t : ℤ). Period t × Room t (c .clip .result)) (sym (period s .is))
-    (s .pre .0, subst (Room (s .args .t)) (sym (times-is c)) (times-room (s .args .t) (s .args .va) (s .args .vb) (s .pre .0 .up)))
+    rw (period s .is, times-is c) (s .pre .0, times-room (s .args .t) (s .args .va) (s .args .vb) (s .pre .0 .up))
 
 pub modulate-spec : {M : Type 1} → statement M
 modulate-spec =
     tie.close
-    (tie.spec
-    (λ c κs. search needs)
-    (λ c κs. small c)
-    (λ c κs. small (c .before))
-    time-requires
-    time-requires-2
-    clip-requires
-    place-requires
-    returns)
+    (tie.spec (λ c κs. search needs) (λ c κs. small c) (λ c κs. small (c .before)) time-requires time-requires-2 clip-requires place-requires returns)

@@ -1,14 +1,11 @@
 -- `modulation::sector_number` meets its contract: three bits, whose sum is at most 7.
 -- Assumes nothing.
 use borrow.Author.Needs.{needs}
-use mathlib.Core.Path.{_≡_, ap, _∙_}
-use Prim.Native.Nat.{ℕ, _+_}
 use native.Mathlib.Omega.{arith}
-use lib.IntN.{ℤ, pos, negℤ, _-ℤ_}
+use lib.IntN.{pos, negℤ, _-ℤ_}
 use mir.Syntax.{w32}
-use Rattle.fixed.proofs.Equal.{ap₃}
 use Rattle.fixed.proofs.Reading.{Reads, m32, local, less, stored, fits}
-use Rattle.modulation.specs.Modulation.{bit as bitOf, sectorNumber, entryEnd}
+use Rattle.modulation.specs.Modulation.{sectorNumber, entryEnd}
 use Rattle.modulation.proofs.Sizes.{bit-le}
 use Rattle.modulation.proofs.sector_number.Statement.{statement}
 use Rattle.modulation.proofs.sector_number.Tie as tie
@@ -20,51 +17,26 @@ less-z s = less (local w32 {x = s .args .e .z} (s .pre .z) tt)
 less-y : (s : tie.Start) → Reads (pos 0 -ℤ m32 (s .args .e .y)) (negℤ (s .args .e .y)) entryEnd
 less-y s = less (local w32 {x = s .args .e .y} (s .pre .y) tt)
 
--- the bits
-x-bit : (c : tie.After-bit) → c .bit .result ≡ bitOf (c .before .before .args .e .x) 1
-x-bit c =
-    let s = c .before .before in
-    c .bit .ensures ∙ ap (λ (v : ℤ). bitOf v 1) (local w32 {x = s .args .e .x} (s .pre .x) tt .is)
-
-z-bit : (c : tie.After-bit2) → c .bit2 .result ≡ bitOf (negℤ (c .before .before .before .before .before .args .e .z)) 2
-z-bit c = c .bit2 .ensures ∙ ap (λ (v : ℤ). bitOf v 2) (stored w32 (less-z (c .before .before .before .before .before)) tt .is)
-
-y-bit : (c : tie.After-bit3) → c .bit3 .result ≡ bitOf (negℤ (c .before .before .before .before .before .before .before .before .args .e .y)) 4
-y-bit c =
-    c .bit3 .ensures
-    ∙ ap (λ (v : ℤ). bitOf v 4) (stored w32 (less-y (c .before .before .before .before .before .before .before .before)) tt .is)
-
 returns : tie.Need-returns
 unfolding sectorNumber
 returns c =
-    ap₃ (λ (i j k : ℕ). i + j + k) (x-bit (c .before .before .before .before .before .before)) (z-bit (c .before .before .before)) (y-bit c)
+    let j = c .before .before .before in
+    let i = j .before .before .before in
+    let s = i .before .before in
+    let x = local w32 {x = s .args .e .x} (s .pre .x) tt in
+    simp (i .bit .ensures, j .bit2 .ensures, c .bit3 .ensures, x .is, stored w32 (less-z s) tt .is, stored w32 (less-y s) tt .is)
 
--- that all of it fits
-sub-bit : tie.Need-sub-bit
-sub-bit c = fits (less-z (c .before .before .before .before)) tt
-
-sub-bit-2 : tie.Need-sub-bit-2
-sub-bit-2 c = fits (less-y (c .before .before .before .before .before .before .before)) tt
-
+-- a bit is at most its weight, and the sums fit
 add-result : tie.Need-add-result
-add-result c =
-    let s = c .before .before .before .before .before in
-    record { fits = omega (arith, x-bit (c .before .before .before), z-bit c, bit-le (s .args .e .x) 1, bit-le (negℤ (s .args .e .z)) 2) }
+add-result c = omega (arith, bit-le _ 1 (c .before .before .before .bit .ensures), bit-le _ 2 (c .bit2 .ensures))
 
 add-result-2 : tie.Need-add-result-2
 add-result-2 c =
-    let s = c .before .before .before .before .before .before .before .before in
-    record { fits = omega (arith, x-bit (c .before .before .before .before .before .before), z-bit (c .before .before .before), y-bit c, bit-le (s .args .e .x) 1, bit-le (negℤ (s .args .e .z)) 2, bit-le (negℤ (s .args .e .y)) 4) }
+    let j = c .before .before .before in
+    omega (arith, bit-le _ 1 (j .before .before .before .bit .ensures), bit-le _ 2 (j .bit2 .ensures), bit-le _ 4 (c .bit3 .ensures))
 
 pub sector-number-spec : {M : Type 1} → statement M
 sector-number-spec =
     tie.close
-    (tie.spec
-    (λ c κs. search needs)
-    sub-bit
-    (λ c κs. search needs)
-    add-result
-    sub-bit-2
-    (λ c κs. search needs)
-    add-result-2
-    returns)
+    (tie.spec (λ c κs. search needs) (λ c. fits (less-z (c .before .before .before .before)) tt) (λ c κs. search needs) add-result
+    (λ c. fits (less-y (c .before .before .before .before .before .before .before)) tt) (λ c κs. search needs) add-result-2 returns)

@@ -76,53 +76,15 @@ unfolding regulated
 returns c =
     ap₂ (λ (o n : ℤ). record { out = o; x = n }) (stored w32 (out-reads (c .before .before .before .before .before)) tt .is) (stored w32 (stored w64 (next-reads c) tt) tt .is)
 
--- that all of it fits
-cast-at : tie.Need-cast-at
-cast-at c = fits (sized (c .fits .x) (c .pre .x-size)) tt
-
-scaled-requires : tie.Need-scaled-requires
-scaled-requires c κs = search needs
-
-cast-rise : tie.Need-cast-rise
-cast-rise c = fits (rise-reads c) tt
-
-cast-u : tie.Need-cast-u
-cast-u c = fits (stored w32 (rise-reads c) tt) tt
-
-add-u : tie.Need-add-u
-add-u c = fits (u-reads c) tt
-
 hold-to-requires : tie.Need-hold-to-requires
 hold-to-requires c κs = let s = c .before .before in rw (sized (s .fits .limit) (s .pre .limit-size) .is) (s .pre .limits)
 
-cast-over : tie.Need-cast-over
-cast-over c = fits (stored w32 (out-reads c) tt) tt
-
-sub-over : tie.Need-sub-over
-sub-over c = fits (over-reads c) tt
-
-times-requires : tie.Need-times-requires
-times-requires c κs = search needs
-
-cast-down : tie.Need-cast-down
-cast-down c = fits (local w32 {x = start c .args .g .kcor} (start c .pre .kcor-size) tt) tt
-
-mul-down : tie.Need-mul-down
-mul-down c = fits (taken-reads c) tt
-
-add-down : tie.Need-add-down
-add-down c = fits (sum-reads c) tt
-
-down-requires : tie.Need-down-requires
-down-requires c κs = search needs
-
-add-t11 : tie.Need-add-t11
-add-t11 c = fits (next-reads c) tt
-
-cast-t15 : tie.Need-cast-t15
-cast-t15 c = fits (stored w64 (next-reads c) tt) tt
-
+-- each reading says that its number fits
 pub regulate-spec : {M : Type 1} → statement M
 regulate-spec =
     tie.close
-    (tie.spec cast-at scaled-requires cast-rise cast-u add-u hold-to-requires cast-over sub-over times-requires cast-down mul-down add-down down-requires add-t11 cast-t15 returns)
+    (tie.spec (λ c. fits (sized (c .fits .x) (c .pre .x-size)) tt) (λ c κs. search needs)
+    (λ c. fits (rise-reads c) tt) (λ c. fits (stored w32 (rise-reads c) tt) tt) (λ c. fits (u-reads c) tt) hold-to-requires
+    (λ c. fits (stored w32 (out-reads c) tt) tt) (λ c. fits (over-reads c) tt) (λ c κs. search needs)
+    (λ c. fits (local w32 {x = start c .args .g .kcor} (start c .pre .kcor-size) tt) tt) (λ c. fits (taken-reads c) tt) (λ c. fits (sum-reads c) tt)
+    (λ c κs. search needs) (λ c. fits (next-reads c) tt) (λ c. fits (stored w64 (next-reads c) tt) tt) returns)

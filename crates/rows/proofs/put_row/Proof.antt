@@ -19,29 +19,10 @@ returns c =
     simp (b .a, b .b, b .c, b .number) (set-four (s .pulses .a) (s .pulses .b) (s .pulses .c) (s .number) (now (k .args .out)) (k .args .at) (k .pre))
 
 -- the four places are in the output
-slice-set-from-b : tie.Need-slice-set-from-b
-slice-set-from-b c = simp length-set (omega arith)
-
-slice-set-from-c : tie.Need-slice-set-from-c
-slice-set-from-c c = simp length-set (omega arith)
-
-slice-set-from-number : tie.Need-slice-set-from-number
-slice-set-from-number c = simp length-set (omega arith)
-
 pub put-row-spec : {M : Type 1} → statement M
 put-row-spec =
     tie.close
-    (tie.spec
-    (λ c. search needs)
-    (λ c. search needs)
-    (λ c. search needs)
-    (λ c. search needs)
-    slice-set-from-b
-    (λ c. search needs)
-    (λ c. search needs)
-    slice-set-from-c
-    (λ c. search needs)
-    (λ c. search needs)
-    slice-set-from-number
-    (λ c. search needs)
-    returns)
+    (tie.spec (λ c. search needs) (λ c. search needs)
+    (λ c. search needs) (λ c. search needs) (λ c. simp length-set (omega arith))
+    (λ c. search needs) (λ c. search needs) (λ c. simp length-set (omega arith))
+    (λ c. search needs) (λ c. search needs) (λ c. simp length-set (omega arith)) (λ c. search needs) returns)

@@ -1,12 +1,11 @@
 -- `rows::rows_run` meets its contract. The measure is how many rows are left.
 -- Assumes nothing.
-use mathlib.Core.Path.{_≡_}
+use mathlib.Core.Path.{_≡_, refl}
 use Prim.Native.Nat.{_-_}
 use native.Mathlib.Omega.{arith}
-use denote.Ref.{now}
 use Rattle.drive_record.proofs.Ranges.{sound→, sound←}
-use Rattle.rows.proofs.Runs.{Upto, start, more, one-most}
-use Rattle.rows.specs.Rows.{isAccepted, isClipped}
+use Rattle.rows.proofs.Runs.{Upto, more, one-most}
+use Rattle.rows.specs.Rows.{isAccepted, isClipped, noRows, ranOf, writtenOf}
 use Rattle.rows.proofs.rows_run.Statement.{statement}
 use Rattle.rows.proofs.rows_run.Tie as tie
 
@@ -23,7 +22,17 @@ returns c =
     (rw e (l .inv .ran), rw e (l .inv .wrote))
 
 loop-holds : tie.Need-loop-holds Inv-loop μ-loop
-loop-holds c = start (c .args .d) (now (c .args .samples)) (now (c .args .out)) (c .args .n) (sound→ (c .args .d) (c .pre .0)) (omega arith)
+unfolding ranOf noRows writtenOf
+loop-holds c = record {
+  low = omega arith;
+  is-sound = sound→ (c .args .d) (c .pre .0);
+  ran = refl;
+  few = omega arith;
+  fewer = omega arith;
+  long = refl;
+  wrote = refl;
+  small = omega arith;
+}
 
 loop-again : tie.Need-loop-again Inv-loop μ-loop
 loop-again c =
@@ -32,18 +41,8 @@ loop-again c =
     more (k .before .before .loop .inv) (k .row-step .result) (r .put-row .last .0) (c .before .before .accepted-in .result) (c .before .clipped-in .result) (k .before .loop-test .taken)
     (k .row-step .ensures) (r .put-row .ensures) (r .put-row .kept .0) (c .before .before .accepted-in .ensures) (c .before .clipped-in .ensures)
 
-loop-less : tie.Need-loop-less Inv-loop μ-loop
-loop-less c = omega arith
-
 row-step-requires : tie.Need-row-step-requires Inv-loop μ-loop
 row-step-requires c κs = (sound← (c .before .loop .cur) (c .before .loop .inv .is-sound), c .before .before .pre .1, omega arith)
-
-put-row-requires : tie.Need-put-row-requires Inv-loop μ-loop
-put-row-requires c κs = omega arith
-
--- that all of it fits
-mul-put-row : tie.Need-mul-put-row Inv-loop μ-loop
-mul-put-row c = omega arith
 
 add-accepted : tie.Need-add-accepted Inv-loop μ-loop
 add-accepted c = omega (arith, one-most (isAccepted (c .before .before .before .before .row-step .result)))
@@ -51,28 +50,8 @@ add-accepted c = omega (arith, one-most (isAccepted (c .before .before .before .
 add-clipped : tie.Need-add-clipped Inv-loop μ-loop
 add-clipped c = omega (arith, one-most (isClipped (c .before .before .before .before .before .row-step .result)))
 
-add-i : tie.Need-add-i Inv-loop μ-loop
-add-i c = omega arith
-
-same-length : tie.Need-same-length Inv-loop μ-loop
-same-length c = c .before .loop .inv .long
-
 pub rows-run-spec : {M : Type 1} → statement M
 rows-run-spec =
     tie.close
-    (tie.spec
-    Inv-loop
-    μ-loop
-    loop-holds
-    row-step-requires
-    mul-put-row
-    put-row-requires
-    (λ c κs. tt)
-    add-accepted
-    (λ c κs. tt)
-    add-clipped
-    add-i
-    loop-less
-    loop-again
-    same-length
-    returns)
+    (tie.spec Inv-loop μ-loop loop-holds row-step-requires (λ c. omega arith) (λ c κs. omega arith)
+    (λ c κs. tt) add-accepted (λ c κs. tt) add-clipped (λ c. omega arith) (λ c. omega arith) loop-again (λ c. c .before .loop .inv .long) returns)

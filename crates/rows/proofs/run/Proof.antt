@@ -59,37 +59,14 @@ returns-4 c =
     let r = run-0 (s .d) (now (s .samples)) (now (s .out)) (not-broken k) (fit e) in
     rw (r .0, r .1) (c .before .rows-run .ensures)
 
-enum-told : tie.Need-enum-told
-enum-told c = search needs
-
-enum-told-2 : tie.Need-enum-told-2
-enum-told-2 c = search needs
-
 rows-run-requires : tie.Need-rows-run-requires
 rows-run-requires c κs =
     let k = c .before .before in
     let e = k .before in
     (is-sound (e .before .before), k .table .ensures, omega arith, room _ _ (fit e))
 
-same-length : tie.Need-same-length
-same-length c = search needs
-
 pub run-spec : {M : Type 1} → statement M
 run-spec =
     tie.close
-    (tie.spec
-    (λ c κs. tt)
-    enum-told
-    enum-told-2
-    (λ c κs. tt)
-    returns
-    (λ c κs. tt)
-    (λ c κs. tt)
-    returns-2
-    (λ c κs. tt)
-    (λ c κs. tt)
-    returns-3
-    (λ c κs. tt)
-    rows-run-requires
-    same-length
-    returns-4)
+    (tie.spec (λ c κs. tt) (λ c. search needs) (λ c. search needs) (λ c κs. tt) returns (λ c κs. tt) (λ c κs. tt) returns-2 (λ c κs. tt) (λ c κs. tt)
+    returns-3 (λ c κs. tt) rows-run-requires (λ c. search needs) returns-4)

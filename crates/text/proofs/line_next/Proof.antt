@@ -19,8 +19,5 @@ returns-2 c =
     let t = ne-eqb _ 32 (c .before .if1 .left) in
     (simp (t, c .word-next .ensures), simp t)
 
-same-length : tie.Need-same-length
-same-length c = search needs
-
 pub line-next-spec : {M : Type 1} → statement M
-line-next-spec = tie.close (tie.spec (λ c κs. tt) same-length returns (λ c κs. tt) returns-2)
+line-next-spec = tie.close (tie.spec (λ c κs. tt) (λ c. search needs) returns (λ c κs. tt) returns-2)

@@ -18,14 +18,8 @@ loop-holds c = counting-start (c .args .n) (omega arith)
 loop-again : tie.Need-loop-again Inv-loop μ-loop
 loop-again c = let k = c .before .loop in counting-more (20 - k .k) (k .inv) (c .loop-test .taken)
 
-loop-less : tie.Need-loop-less Inv-loop μ-loop
-loop-less c = omega arith
-
-add-k : tie.Need-add-k Inv-loop μ-loop
-add-k c = omega (arith, c .before .loop .inv .sum)
-
 returns : tie.Need-returns Inv-loop μ-loop
 returns c = counting-end (c .before .loop .inv) (c .loop-test .left)
 
 pub places-spec : {M : Type 1} → statement M
-places-spec = tie.close (tie.spec Inv-loop μ-loop loop-holds add-k loop-less loop-again returns)
+places-spec = tie.close (tie.spec Inv-loop μ-loop loop-holds (λ c. omega arith) (λ c. omega arith) loop-again returns)

@@ -10,14 +10,5 @@ use Rattle.text.proofs.put_byte.Tie as tie
 returns : tie.Need-returns
 returns c = (refl, written-one (now (c .args .out)) (c .args .at) (c .args .b) (c .pre))
 
-slice-write-out : tie.Need-slice-write-out
-slice-write-out c = search needs
-
-add-result : tie.Need-add-result
-add-result c = search needs
-
-same-length : tie.Need-same-length
-same-length c = search needs
-
 pub put-byte-spec : {M : Type 1} → statement M
-put-byte-spec = tie.close (tie.spec slice-write-out add-result same-length returns)
+put-byte-spec = tie.close (tie.spec (λ c. search needs) (λ c. search needs) (λ c. search needs) returns)

@@ -9,14 +9,11 @@ use Rattle.text.proofs.put_count.Tie as tie
 returns : tie.Need-returns
 returns c =
     let k = c .before .before in
-    let s = k .before .before .before .args in
-    (k .put-digits .ensures .0, k .put-digits .ensures .1, omega (arith, k .put-digits .ensures .0, count-length (s .count) (omega arith)))
+    let n = count-length (k .before .before .before .args .count) (omega arith) in
+    (k .put-digits .ensures .0, k .put-digits .ensures .1, omega arith)
 
 put-digits-requires : tie.Need-put-digits-requires
 put-digits-requires c κs = omega (arith, count-length (c .before .before .args .count) (omega arith))
 
-same-length : tie.Need-same-length
-same-length c = search needs
-
 pub put-count-spec : {M : Type 1} → statement M
-put-count-spec = tie.close (tie.spec put-digits-requires same-length returns)
+put-count-spec = tie.close (tie.spec put-digits-requires (λ c. search needs) returns)

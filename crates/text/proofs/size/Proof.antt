@@ -3,7 +3,7 @@
 use borrow.Author.Needs.{needs}
 use mathlib.Core.Path.{ap, _∙_}
 use native.Mathlib.Omega.{arith}
-use lib.IntN.{pos, natAbs}
+use lib.IntN.{pos, natAbs, negℤ, _-ℤ_}
 use mir.Syntax.{w64}
 use Rattle.fixed.proofs.Parts.{order, P-neg, N-neg}
 use Rattle.fixed.proofs.Size.{abs-neg}
@@ -14,29 +14,21 @@ use Rattle.text.proofs.size.Tie as tie
 wide : (s : tie.Start) → Reads (m64 (m32 (s .args .v))) (s .args .v) 2147483648
 wide s = stored w64 (word (s .fits .v)) tt
 
+turned : (s : tie.Start) → Reads (m64 (pos 0 -ℤ m64 (m32 (s .args .v)))) (negℤ (s .args .v)) 2147483648
+turned s = stored w64 (less (wide s)) tt
+
 returns : tie.Need-returns
-returns c =
-    let v = c .before .args .v in
-    ap natAbs (stored w64 (less (wide (c .before))) tt .is) ∙ abs-neg v
-
-returns-2 : tie.Need-returns-2
-returns-2 c = ap natAbs (wide (c .before) .is)
-
--- that all of it fits
-cast-z : tie.Need-cast-z
-cast-z c = search (needs, widen)
-
-sub-result : tie.Need-sub-result
-sub-result c = fits (less (wide (c .before))) tt
+returns c = ap natAbs (turned (c .before) .is) ∙ abs-neg (c .before .args .v)
 
 cast-result : tie.Need-cast-result
 cast-result c =
     let v = c .before .args .v in
-    let h = is-less (wide (c .before)) (lit (pos 0)) (c .if1 .taken) in
-    unsigned (stored w64 (less (wide (c .before))) tt) (omega (arith, order, h, P-neg v, N-neg v)) tt
+    unsigned (turned (c .before)) (omega (arith, order, is-less (wide (c .before)) (lit (pos 0)) (c .if1 .taken), P-neg v, N-neg v)) tt
 
 cast-result-2 : tie.Need-cast-result-2
 cast-result-2 c = unsigned (wide (c .before)) (not-less (wide (c .before)) (lit (pos 0)) (c .if1 .left)) tt
 
 pub size-spec : {M : Type 1} → statement M
-size-spec = tie.close (tie.spec cast-z sub-result cast-result cast-result-2 returns returns-2)
+size-spec =
+    tie.close
+    (tie.spec (λ c. search (needs, widen)) (λ c. fits (less (wide (c .before))) tt) cast-result cast-result-2 returns (λ c. ap natAbs (wide (c .before) .is)))

@@ -15,18 +15,8 @@ returns-2 : tie.Need-returns-2
 unfolding wordNext otherNext
 returns-2 c = simp (c .before .before .if1 .left)
 
--- that all of it fits
-mul-n : tie.Need-mul-n
-mul-n c = search needs
-
 sub-n : tie.Need-sub-n
 sub-n c = leb-true 48 _ (and-left _ _ (c .before .if1 .taken))
 
-cast-n : tie.Need-cast-n
-cast-n c = search needs
-
-add-n : tie.Need-add-n
-add-n c = search needs
-
 pub word-next-spec : {M : Type 1} → statement M
-word-next-spec = tie.close (tie.spec (λ c κs. tt) mul-n sub-n cast-n add-n returns returns-2)
+word-next-spec = tie.close (tie.spec (λ c κs. tt) (λ c. search needs) sub-n (λ c. search needs) (λ c. search needs) returns returns-2)

@@ -1,22 +1,15 @@
 -- `text::word_ok` meets its contract.
 -- Assumes nothing.
-use mathlib.Core.Path.{ap, _∙_}
-use mathlib.Core.Bool.{not, _&&_}
-use lib.IntN.{ℤ}
+use mathlib.Core.Path.{_∙_}
 use mir.Syntax.{w64}
-use Rattle.fixed.specs.Fixed.{within}
 use Rattle.fixed.proofs.Reading.{answer}
-use Rattle.text.specs.Grammar.{least, greatest}
 use Rattle.text.specs.Automaton.{wordOk}
 use Rattle.text.proofs.word_ok.Statement.{statement}
 use Rattle.text.proofs.word_ok.Tie as tie
 
 returns : tie.Need-returns
 unfolding wordOk
-returns c =
-    let k = c .before .before in
-    let w = k .before .args .w in
-    ap (λ (z : ℤ). w .digits && not (w .bad) && within least greatest z) (answer w64 (k .word-signed .ok) .is ∙ k .word-signed .ensures)
+returns c = let k = c .before .before in rw (answer w64 (k .word-signed .ok) .is ∙ k .word-signed .ensures)
 
 pub word-ok-spec : {M : Type 1} → statement M
 word-ok-spec = tie.close (tie.spec (λ c κs. tt) returns)
