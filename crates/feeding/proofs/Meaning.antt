@@ -12,7 +12,7 @@ use lib.ListN.{length}
 use Rattle.text.specs.Grammar.{lineOf}
 use Rattle.text.specs.Automaton.{Reading, lineRead}
 use Rattle.text.proofs.Lines.{Taken, accepted, refused, too-many, first-numbers}
-use Rattle.text.proofs.Choice.{less-or-not, true-or-false}
+use Rattle.fixed.proofs.Choice.{less-or-not, true-or-false}
 use Rattle.feeding.specs.Lines.{ifFits, goodIn}
 use Rattle.feeding.specs.Feeding.{front, isGood}
 

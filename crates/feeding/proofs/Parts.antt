@@ -15,7 +15,7 @@ use lib.Seq.{drop-cons}
 use Rattle.fixed.proofs.HeldLaws.{and-right}
 use Rattle.text.specs.declared.Line.{Line}
 use Rattle.text.specs.Automaton.{takes, wordOk, wordValue, lineMore, lineBad, lineNext, lineEnd, numbersNext, numbersEnd, Reading, readNext, readAll, readEnd, lineRead}
-use Rattle.text.proofs.Choice.{true-or-false}
+use Rattle.fixed.proofs.Choice.{true-or-false}
 use Rattle.feeding.specs.Feeding.{partOf}
 
 -- ════ the numbers stay as many as they are

@@ -13,10 +13,10 @@ use lib.ListN.{length, getD, drop, drop-of-length-le}
 use lib.Seq.{drop-cons}
 use Rattle.fixed.proofs.HeldLaws.{and-left, and-right}
 use Rattle.text.specs.Automaton.{Reading, readNext, readEnd}
-use Rattle.text.specs.Decimal.{written}
-use Rattle.text.proofs.Choice.{true-or-false}
-use Rattle.text.proofs.Written.{written-none, written-length}
-use Rattle.text.proofs.TextLaws.{Put, put, put-then}
+use Rattle.writing.specs.Decimal.{written}
+use Rattle.fixed.proofs.Choice.{true-or-false}
+use Rattle.writing.proofs.Written.{written-none, written-length}
+use Rattle.writing.proofs.TextLaws.{Put, put, put-then}
 use Rattle.feeding.specs.Feeding.{Part, partOf, Fed, lineDue, front, isGood, endFed, endText, byteFed, byteText, fedOf, textFed}
 use Rattle.feeding.proofs.Parts.{part-length, part-count}
 use Rattle.feeding.proofs.Pieces.{end-good, end-bad, text-good, text-bad, fed-stopped, text-stopped}

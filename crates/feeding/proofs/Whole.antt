@@ -11,7 +11,7 @@ use lib.IntN.{ℤ}
 use lib.ListN.{length}
 use Rattle.text.specs.Automaton.{Reading, readAll, lineRead}
 use Rattle.text.proofs.Lines.{read-more}
-use Rattle.text.proofs.Choice.{true-or-false}
+use Rattle.fixed.proofs.Choice.{true-or-false}
 use Rattle.feeding.specs.Lines.{linesOf, restOf, any, goodIn, goodThen, goodOf, badOr, badOf, afterAll, answersTo}
 use Rattle.feeding.specs.Feeding.{Fed, lineAt, lineDue, front, isGood, endFed, endText, byteFed, byteText, fedOf, textFed}
 use Rattle.feeding.proofs.Parts.{read-length}

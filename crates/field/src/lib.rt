@@ -2,7 +2,19 @@
 ghost use mathlib.Core.Path.{_≡_};
 ghost use Prim.Native.Nat.{_≤_};
 ghost use lib.IntN.{natAbs, _+ℤ_};
-ghost use Rattle.field.specs.Field.{fluxNext, slip as slipOf, angleNext, followed as followedOf, fluxEnd, slipEnd, speedEnd, angles, still as stillOf, fieldOk, FieldSized};
+ghost use Rattle.field.specs.Field.{
+  fluxNext,
+  slip as slipOf,
+  angleNext,
+  followed as followedOf,
+  fluxEnd,
+  slipEnd,
+  speedEnd,
+  angles,
+  still as stillOf,
+  fieldOk,
+  FieldSized,
+};
 
 #[repr(C)]
 pub struct Field {

@@ -14,7 +14,7 @@ use lib.ListN.{length, take, drop, replicate}
 use lib.Seq.{getD-take, length-take-le}
 use Rattle.text.specs.declared.Line.{Line}
 use Rattle.text.specs.Automaton.{lineStart}
-use Rattle.text.proofs.Choice.{true-or-false, less-or-not}
+use Rattle.fixed.proofs.Choice.{true-or-false, less-or-not}
 use Rattle.feeding.specs.Lines.{goodLines, endsBad, afterAll, oneMore}
 use Rattle.feeding.specs.Feeding.{partOf, Fed, lineDue, isGood, fedOf}
 use Rattle.feeding.proofs.Meaning.{Room}

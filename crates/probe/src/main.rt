@@ -8,7 +8,7 @@ ghost use lib.Dec.{ltb};
 ghost use lib.IntN.{pos};
 ghost use lib.ListN.{length, take, replicate};
 ghost use Rattle.io.specs.Counts.{Counts};
-ghost use Rattle.text.specs.Decimal.{badText, written};
+ghost use Rattle.writing.specs.Decimal.{badText, written};
 ghost use Rattle.feeding.specs.Lines.{oneMore};
 ghost use Rattle.feeding.specs.Feeding.{lineDue, fedOf};
 ghost use Rattle.probe.specs.Calls.{most, callBy, isCall, callsAfter, asFed};
@@ -259,7 +259,7 @@ fn put_answer(n: &[i32; ALL], out: &mut [u8], at: usize) -> usize
 {
     let mut words = [0i32; 22];
     let k = answer(n, &mut words);
-    text::put_line(&words, k, out, at)
+    writing::put_line(&words, k, out, at)
 }
 
 fn start() -> Calls
@@ -319,7 +319,7 @@ fn ended(s: Calls, out: &mut [u8]) -> usize
         × (now (out .exit) ≡ written (now (out .entry)) 0 (cond (s .begun) (badText (oneMore (s .before))) [])) × (r ≤ 25) ⌝ }
 {
     if s.begun {
-        return text::put_bad(feeding::next(s.before), out, 0);
+        return writing::put_bad(feeding::next(s.before), out, 0);
     }
     0
 }

@@ -44,7 +44,8 @@ pub record IntegralsBetween (d : Drive) (ia ib count : ℤ) : Type 0 where
   pub d-axis : Between (d .integrals .d) (next d ia ib count .integrals .d) (issued d ia ib count .d)
   pub q-axis : Between (d .integrals .q) (next d ia ib count .integrals .q) (issued d ia ib count .q)
   pub speed : thirtieth (d .shaft) ≡ true → Between (d .integrals .speed) (next d ia ib count .integrals .speed) (next d ia ib count .command .torque)
-  pub speed-stays : thirtieth (d .shaft) ≡ false → (next d ia ib count .integrals .speed ≡ d .integrals .speed) × (next d ia ib count .command .torque ≡ d .command .torque)
+  pub speed-stays : thirtieth (d .shaft) ≡ false
+      → (next d ia ib count .integrals .speed ≡ d .integrals .speed) × (next d ia ib count .command .torque ≡ d .command .torque)
 
 -- ════ an output leaves a limit when the error turns: a negative error, and it is below the upper limit; one worth a count, and it is above the lower
 pub record OutputsLeave (d : Drive) (ia ib count : ℤ) : Type 0 where
@@ -53,7 +54,8 @@ pub record OutputsLeave (d : Drive) (ia ib count : ℤ) : Type 0 where
   pub q-top : qError d ia ib count <ℤ pos 0 → issued d ia ib count .q <ℤ d .settings .v
   pub q-bottom : pos 4096 ≤ℤ (qError d ia ib count *ℤ d .settings .ckp) → negℤ (d .settings .v) <ℤ issued d ia ib count .q
   pub speed-top : thirtieth (d .shaft) ≡ true → speedError d ia ib count <ℤ pos 0 → next d ia ib count .command .torque <ℤ d .settings .q
-  pub speed-bottom : thirtieth (d .shaft) ≡ true → pos 4096 ≤ℤ (speedError d ia ib count *ℤ d .settings .skp) → negℤ (d .settings .q) <ℤ next d ia ib count .command .torque
+  pub speed-bottom : thirtieth (d .shaft) ≡ true → pos 4096 ≤ℤ (speedError d ia ib count *ℤ d .settings .skp)
+      → negℤ (d .settings .q) <ℤ next d ia ib count .command .torque
 
 -- ════ the voltage issued is brought back to the stator, within ±8192; "unclipped, on-time differences stand within less than 2" of what it asks
 pub record PulsesAsAsked (d : Drive) (ia ib count : ℤ) : Type 0 where
@@ -61,7 +63,8 @@ pub record PulsesAsAsked (d : Drive) (ia ib count : ℤ) : Type 0 where
   pub alpha-size : natAbs (stepped d ia ib count .voltage .alpha) ≤ 8192
   pub beta-size : natAbs (stepped d ia ib count .voltage .beta) ≤ 8192
   pub in-period : AllInPeriod (d .settings .t) (stepped d ia ib count .pulses)
-  pub near : stepped d ia ib count .pulses .clipped ≡ false → AsAsked (d .settings .t) (stepped d ia ib count .voltage .alpha) (stepped d ia ib count .voltage .beta) (stepped d ia ib count .pulses)
+  pub near : stepped d ia ib count .pulses .clipped ≡ false
+      → let s = stepped d ia ib count in AsAsked (d .settings .t) (s .voltage .alpha) (s .voltage .beta) (s .pulses)
 
 -- ════ compares within 0..T, over any history, in every step and row, refused ones too
 abbrev pub ComparesOfAnyStep : Type 0

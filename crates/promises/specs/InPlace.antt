@@ -34,11 +34,15 @@ module _ (T : Ended) where
 
 -- a call T with clauses c. Its outcome is read of the answer u and of the parameters at exit, x. Of all arguments a it asks nothing; what it ensures
 -- is the fact that the outcome is the definition's; and no second outcome
-pub record SettledInPlace {M : Type 1} (𝓤 : URA M) (T : Ended) (c : Clauses 𝓤 T) {B : Type 0} (outcome : (κs : Times T) → Answer T κs → AtExit T κs → B) (definition : (κs : Times T) → Given T κs → B) : Type 1 where
+pub record SettledInPlace {M : Type 1} (𝓤 : URA M) (T : Ended) (c : Clauses 𝓤 T) {B : Type 0}
+    (outcome : (κs : Times T) → Answer T κs → AtExit T κs → B) (definition : (κs : Times T) → Given T κs → B) : Type 1 where
   pub asks-nothing : (κs : Times T) (a : Given T κs) (g : c κs a .ghost) → ent 𝓤 (emp 𝓤) (c κs a .requires g)
-  pub only-defined : (κs : Times T) (a : Given T κs) (g : c κs a .ghost) (u : Answer T κs) (x : AtExit T κs) → ent 𝓤 (c κs a .ensures g u x) (fact 𝓤 (outcome κs u x ≡ definition κs a))
-  pub defined : (κs : Times T) (a : Given T κs) (g : c κs a .ghost) (u : Answer T κs) (x : AtExit T κs) → ent 𝓤 (fact 𝓤 (outcome κs u x ≡ definition κs a)) (c κs a .ensures g u x)
-  pub no-second : (κs : Times T) (a : Given T κs) (g h : c κs a .ghost) (u v : Answer T κs) (x y : AtExit T κs) → ent 𝓤 (sep 𝓤 (c κs a .ensures g u x) (c κs a .ensures h v y)) (fact 𝓤 (outcome κs u x ≡ outcome κs v y))
+  pub only-defined : (κs : Times T) (a : Given T κs) (g : c κs a .ghost) (u : Answer T κs) (x : AtExit T κs)
+      → ent 𝓤 (c κs a .ensures g u x) (fact 𝓤 (outcome κs u x ≡ definition κs a))
+  pub defined : (κs : Times T) (a : Given T κs) (g : c κs a .ghost) (u : Answer T κs) (x : AtExit T κs)
+      → ent 𝓤 (fact 𝓤 (outcome κs u x ≡ definition κs a)) (c κs a .ensures g u x)
+  pub no-second : (κs : Times T) (a : Given T κs) (g h : c κs a .ghost) (u v : Answer T κs) (x y : AtExit T κs)
+      → ent 𝓤 (sep 𝓤 (c κs a .ensures g u x) (c κs a .ensures h v y)) (fact 𝓤 (outcome κs u x ≡ outcome κs v y))
 
 -- the answer, and the record in the place that was lent
 module _ {M : Type 1} (𝓤 : URA M) (H : Heap 𝓤) (𝓜 : Model 𝓤 H) (𝓖 : GhostRules 𝓤 H) (𝓡 : Running 𝓤 H 𝓜) where

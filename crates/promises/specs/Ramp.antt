@@ -32,11 +32,13 @@ pub record Thirtieths (d : Drive) (n ticks : ℕ) : Type 0 where
   pub counted : ticks ≡ n / 30
 
 abbrev pub EveryThirtieth : Type 0
-EveryThirtieth = (s : Settings) (cs : List Call) → accepted s ≡ true → Thirtieths (afterCalls (fresh s) cs) (since stepsIn 0 (fresh s) cs) (since ticksIn 0 (fresh s) cs)
+EveryThirtieth = (s : Settings) (cs : List Call) → accepted s ≡ true
+    → Thirtieths (afterCalls (fresh s) cs) (since stepsIn 0 (fresh s) cs) (since ticksIn 0 (fresh s) cs)
 
 -- "A drive record goes by its own words, wherever it comes from": the same from any record that is not broken, its steps in the window counted too
 abbrev pub ThirtiethsOfAny : Type 0
-ThirtiethsOfAny = (d : Drive) (cs : List Call) → broken d ≡ false → Thirtieths (afterCalls d cs) (since stepsIn (natAbs (d .shaft .steps)) d cs) (since ticksIn 0 d cs)
+ThirtiethsOfAny = (d : Drive) (cs : List Call) → broken d ≡ false
+    → Thirtieths (afterCalls d cs) (since stepsIn (natAbs (d .shaft .steps)) d cs) (since ticksIn 0 d cs)
 
 -- so, with m steps in the window, n accepted steps with no clear among them have (m + n)/30 ticks
 abbrev pub TicksCounted : Type 0

@@ -9,6 +9,10 @@ use contract.Lifetimes.{Lfts}
 use borrow.Fn.Kinds.{PK, RK, Dens, resT, endedOf, In, Out}
 use denote.Triple.Clauses.{AtExit}
 use denote.Ref.{now}
+use Rattle.settings.proofs.check.Reads as check
+use Rattle.settings.proofs.check.Kinds as check-kinds
+use Rattle.drive.proofs.fresh.Reads as fresh
+use Rattle.drive.proofs.fresh.Kinds as fresh-kinds
 use Rattle.drive.proofs.make.Reads as make
 use Rattle.drive.proofs.make.Kinds as make-kinds
 use Rattle.drive.proofs.number_of.Reads as number_of
@@ -21,7 +25,8 @@ use Rattle.drive.proofs.clear.Reads as clear
 use Rattle.drive.proofs.clear.Kinds as clear-kinds
 use Rattle.rows.proofs.run.Reads as run
 use Rattle.rows.proofs.run.Kinds as run-kinds
-use Rattle.drive.specs.Calls.{made, madeNumber, stepped, targeted, cleared}
+use Rattle.settings.specs.Settings.{checked}
+use Rattle.drive.specs.Calls.{fresh as freshOf, made, madeNumber, stepped, targeted, cleared}
 use Rattle.rows.specs.Rows.{runOf, outputAfter}
 use Rattle.promises.specs.Demand1.{Run}
 
@@ -30,10 +35,18 @@ use Rattle.promises.specs.Demand1.{Run}
 pub record Settled (n : ℕ) (ps : List (PK n)) (r : RK n) (asks : In n ps) (ensures : Out n ps r) {B : Type 0}
     (outcome : (κs : Lfts n) → resT r κs .Denot → AtExit (endedOf n ps r) κs → B) (definition : (κs : Lfts n) → Dens κs ps → B) : Type 0 where
   pub asks-nothing : (κs : Lfts n) (a : Dens κs ps) → asks κs a
-  pub as-defined : (κs : Lfts n) (a : Dens κs ps) (u : resT r κs .Denot) (x : AtExit (endedOf n ps r) κs) → ensures κs a u x ↔ (outcome κs u x ≡ definition κs a)
-  pub no-second : (κs : Lfts n) (a : Dens κs ps) (u v : resT r κs .Denot) (x y : AtExit (endedOf n ps r) κs) → ensures κs a u x → ensures κs a v y → outcome κs u x ≡ outcome κs v y
+  pub as-defined : (κs : Lfts n) (a : Dens κs ps) (u : resT r κs .Denot) (x : AtExit (endedOf n ps r) κs)
+      → ensures κs a u x ↔ (outcome κs u x ≡ definition κs a)
+  pub no-second : (κs : Lfts n) (a : Dens κs ps) (u v : resT r κs .Denot) (x y : AtExit (endedOf n ps r) κs)
+      → ensures κs a u x → ensures κs a v y → outcome κs u x ≡ outcome κs v y
 
--- settings, and the number of what they make
+-- settings: the check, the fresh drive, what they make and its number
+abbrev pub CheckSettled : Type 0
+CheckSettled = Settled 0 check-kinds.ps check-kinds.r check.Pre check.Post (λ κs u x. u) (λ κs a. checked (a .0))
+
+abbrev pub FreshSettled : Type 0
+FreshSettled = Settled 0 fresh-kinds.ps fresh-kinds.r fresh.Pre fresh.Post (λ κs u x. u) (λ κs a. freshOf (a .0))
+
 abbrev pub MakeSettled : Type 0
 MakeSettled = Settled 0 make-kinds.ps make-kinds.r make.Pre make.Post (λ κs u x. u) (λ κs a. made (a .0))
 

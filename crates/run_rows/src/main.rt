@@ -6,7 +6,7 @@ ghost use Prim.Native.Nat.{_*_, _≤_};
 ghost use lib.Dec.{ltb};
 ghost use lib.ListN.{length, take};
 ghost use Rattle.io.specs.Counts.{Counts};
-ghost use Rattle.text.specs.Decimal.{written};
+ghost use Rattle.writing.specs.Decimal.{written};
 ghost use Rattle.stream.specs.Streaming.{asFed, rowsFed, rowsText};
 ghost use Rattle.sine.specs.Sine.{sineTable};
 ghost use Rattle.drive_record.specs.Record.{sound as soundOf};
@@ -24,7 +24,8 @@ pub struct Turned {
 
 // What was read is fed, and what it is answered is sent.
 fn turn(s: Stream, got: Got, bytes: &[u8], table: &sine::Table, out: &mut [u8]) -> Turned
-    requires { ⌜ (soundOf (s .tally .drive) ≡ true) × (now table ≡ sineTable) × (48 * length (now bytes) ≤ length (now out)) × Counts (got .size) (now bytes) ⌝ }
+    requires { ⌜ (soundOf (s .tally .drive) ≡ true) × (now table ≡ sineTable)
+        × (48 * length (now bytes) ≤ length (now out)) × Counts (got .size) (now bytes) ⌝ }
     ensures { λ r. ⌜ (asFed (r .stream) ≡ rowsFed (asFed s) (take (got .size) (now (bytes .entry))))
         × (now (out .exit) ≡ written (now (out .entry)) 0 (rowsText (asFed s) (take (got .size) (now (bytes .entry)))))
         × (soundOf (r .stream .tally .drive) ≡ true) ⌝ }

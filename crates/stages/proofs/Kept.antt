@@ -7,6 +7,7 @@ use native.Mathlib.Nat.{le-trans}
 use lib.Dec.{leb→le}
 use lib.IntN.{ℤ, pos, natAbs, _-ℤ_}
 use lib.Signed.{≤ℤ-refl}
+use Rattle.fixed.proofs.Choice.{choose}
 use Rattle.fixed.proofs.HeldLaws.{within-yes, within-abs}
 use Rattle.regulator.specs.declared.Gains.{Gains}
 use Rattle.regulator.specs.Regulator.{regulated, Lawful}
@@ -84,10 +85,6 @@ with-shaft-sound : (d : Drive) (s : Shaft) → Sound d → ShaftIn s → Sound (
 unfolding withShaft
 with-shaft-sound d s h i =
     record { settings = h .settings; shaft = i; command = h .command; field = h .field; integrals = h .integrals }
-
-choose : {A : Type 0} (Q : A → Type 0) (b : Bool) (x y : A) → (b ≡ true → Q x) → (b ≡ false → Q y) → Q (cond b x y)
-choose Q true x y f g = f refl
-choose Q false x y f g = g refl
 
 pub rules-1-and-2-sound : (d : Drive) (count : ℤ) → Sound d → Count count → Sound (rules1And2 d count)
 unfolding rules1And2

@@ -10,7 +10,7 @@ use Rattle.drive.specs.Calls.{fresh, refused}
 use Rattle.drive.proofs.AtBench.{first, second, third}
 use Rattle.rows.specs.Rows.{rowStepped, four, isAccepted, isClipped}
 use Rattle.text.specs.Grammar.{allDigits, valueOf, digitsOf, fitting, numberOf, wordsIn, both, numbersOf, lineOf}
-use Rattle.text.specs.Decimal.{decimal, countText, textOf, moreText, numbersText, lineText}
+use Rattle.writing.specs.Decimal.{decimal, countText, textOf, moreText, numbersText, lineText}
 use Rattle.feeding.specs.Lines.{linesOf, restOf, any, ifFits, goodIn, goodThen, goodOf, badOr, badOf, goodLines, endsBad, afterAll, answersTo}
 use Rattle.feeding.specs.Feeding.{joined}
 use Rattle.stream.specs.Program.{isRow, tallyOf, answerText, headerText, totalsText, closingText, programText}

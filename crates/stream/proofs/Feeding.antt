@@ -16,8 +16,8 @@ use Rattle.drive_record.proofs.Ranges.{Sound, sound←}
 use Rattle.rows.proofs.Runs.{row-sound}
 use Rattle.text.specs.declared.Line.{Line}
 use Rattle.text.specs.Automaton.{lineStart}
-use Rattle.text.specs.Decimal.{written}
-use Rattle.text.proofs.TextLaws.{put}
+use Rattle.writing.specs.Decimal.{written}
+use Rattle.writing.proofs.TextLaws.{put}
 use Rattle.feeding.specs.Feeding.{Part, partOf, Fed, lineDue, isGood}
 use Rattle.feeding.proofs.Parts.{part-length}
 use Rattle.feeding.proofs.Upto.{good-test, Upto, upto-start, upto-good, upto-else, upto-past, upto-stopped, Wrote, wrote-start, wrote-good, wrote-else, wrote-past, wrote-stopped}

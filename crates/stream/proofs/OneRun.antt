@@ -22,7 +22,7 @@ use Rattle.rows.proofs.Runs.{one-most}
 use Rattle.rows.proofs.Outcomes.{run-0}
 use Rattle.rows.proofs.Pieces.{joined as joinedRuns, ran-in-pieces, written-in-pieces}
 use Rattle.text.specs.Grammar.{lineOf}
-use Rattle.text.specs.Decimal.{lineText}
+use Rattle.writing.specs.Decimal.{lineText}
 use Rattle.feeding.specs.Lines.{linesOf, ifFits, goodIn, goodThen, goodOf, goodLines, endsBad, afterAll, answersTo, heldCount, oneMore}
 use Rattle.feeding.specs.Feeding.{joined}
 use Rattle.stream.specs.declared.Tally.{Tally}

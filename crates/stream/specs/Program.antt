@@ -9,7 +9,7 @@ use Rattle.drive_record.specs.declared.Drive.{Drive}
 use Rattle.stages.specs.declared.Stepped.{Stepped}
 use Rattle.rows.specs.declared.Ran.{Ran}
 use Rattle.rows.specs.Rows.{rowStepped, four, isAccepted, isClipped, rowsIn, runOf, outputAfter}
-use Rattle.text.specs.Decimal.{countText, lineText, badText}
+use Rattle.writing.specs.Decimal.{countText, lineText, badText}
 use Rattle.feeding.specs.Lines.{goodLines, endsBad, afterAll, answersTo, heldCount, oneMore}
 use Rattle.stream.specs.declared.Tally.{Tally}
 
@@ -78,4 +78,5 @@ ranTally r n = record { drive = r .drive; rows = heldCount n; accepted = heldCou
 -- its output, over zeros of which there are as many as it writes, and where it ends
 abbrev pub runText : Drive → List ℤ → Bool → List ℕ
 runText d samples bad =
-    let out = replicate (4 * rowsIn samples) (pos 0) in foursText (outputAfter d samples out) ++ closingText bad (ranTally (runOf d samples out) (rowsIn samples))
+    let out = replicate (4 * rowsIn samples) (pos 0) in
+    foursText (outputAfter d samples out) ++ closingText bad (ranTally (runOf d samples out) (rowsIn samples))

@@ -5,7 +5,7 @@ ghost use Prim.Native.Nat.{_+_, _*_, _≤_};
 ghost use lib.Dec.{eqb};
 ghost use lib.ListN.{length};
 ghost use Rattle.sine.specs.Sine.{sineTable};
-ghost use Rattle.text.specs.Decimal.{written};
+ghost use Rattle.writing.specs.Decimal.{written};
 ghost use Rattle.drive_record.specs.Record.{sound as soundOf};
 ghost use Rattle.feeding.specs.Lines.{oneMore};
 ghost use Rattle.stream.specs.Program.{headerText, tallyOf, answerText, totalsText};
@@ -64,7 +64,7 @@ fn row_told(t: Tally, row: [i32; 3], table: &sine::Table, out: &mut [u8], at: us
 {
     let s = drive::step_sound(t.drive, row[0], row[1], row[2], table);
     let answer = [s.pulses.a, s.pulses.b, s.pulses.c, s.number];
-    let place = text::put_line(&answer, 4, out, at);
+    let place = writing::put_line(&answer, 4, out, at);
     let accepted = fixed::within(0, 0, s.number);
     let drive = s.drive;
     Told {
@@ -83,7 +83,7 @@ pub fn put_header(out: &mut [u8], at: usize) -> usize
     requires { ⌜ at + 9 ≤ length (now out) ⌝ }
     ensures { λ r. ⌜ (r ≡ at + length headerText) × (now (out .exit) ≡ written (now (out .entry)) at headerText) × (r ≤ at + 9) ⌝ }
 {
-    text::put_text(b"a b c no\n", out, at)
+    writing::put_text(b"a b c no\n", out, at)
 }
 
 // Nothing is read yet.
@@ -151,11 +151,11 @@ fn put_totals(accepted: u64, clipped: u64, out: &mut [u8], at: usize) -> usize
     ensures { λ r. ⌜ (r ≡ at + length (totalsText accepted clipped)) × (now (out .exit) ≡ written (now (out .entry)) at (totalsText accepted clipped))
         × (r ≤ at + 56) ⌝ }
 {
-    let a = text::put_text(b"steps ", out, at);
-    let b = text::put_count(accepted, out, a);
-    let c = text::put_text(b" clipped ", out, b);
-    let d = text::put_count(clipped, out, c);
-    text::put_byte(b'\n', out, d)
+    let a = writing::put_text(b"steps ", out, at);
+    let b = writing::put_count(accepted, out, a);
+    let c = writing::put_text(b" clipped ", out, b);
+    let d = writing::put_count(clipped, out, c);
+    writing::put_byte(b'\n', out, d)
 }
 
 // What is written last: that a line is bad, where one is no row or has no line feed, and the totals so far.
@@ -164,7 +164,7 @@ pub fn ended(s: Stream, out: &mut [u8], at: usize) -> usize
     ensures { λ r. ⌜ (r ≡ at + length (lastText (asFed s))) × (now (out .exit) ≡ written (now (out .entry)) at (lastText (asFed s))) × (r ≤ at + 81) ⌝ }
 {
     if s.begun {
-        let place = text::put_bad(feeding::next(s.tally.rows), out, at);
+        let place = writing::put_bad(feeding::next(s.tally.rows), out, at);
         return put_totals(s.tally.accepted, s.tally.clipped, out, place);
     }
     put_totals(s.tally.accepted, s.tally.clipped, out, at)

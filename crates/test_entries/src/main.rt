@@ -3,7 +3,7 @@
 fn show(v: i32) {
     let numbers = [v];
     let mut out = [0u8; 12];
-    let place = text::put_line(&numbers, 1, &mut out, 0);
+    let place = writing::put_line(&numbers, 1, &mut out, 0);
     if !pipes::send(&out, place) {
         pipes::unsent(b"test_entries");
     }

@@ -17,12 +17,12 @@ fn tell(r: Ran, answers: &[i32], out: &mut [u8])
     requires { ⌜ (8 ≤ length (now answers)) × (150 ≤ length (now out)) ⌝ }
 {
     let number = [r.number];
-    let a = text::put_count(r.accepted as u64, out, 0);
-    let b = text::put_byte(b' ', out, a);
-    let c = text::put_count(r.clipped as u64, out, b);
-    let e = text::put_byte(b' ', out, c);
-    let f = text::put_line(&number, 1, out, e);
-    let end = text::put_line(answers, 8, out, f);
+    let a = writing::put_count(r.accepted as u64, out, 0);
+    let b = writing::put_byte(b' ', out, a);
+    let c = writing::put_count(r.clipped as u64, out, b);
+    let e = writing::put_byte(b' ', out, c);
+    let f = writing::put_line(&number, 1, out, e);
+    let end = writing::put_line(answers, 8, out, f);
     pipes::send(out, end);
 }
 

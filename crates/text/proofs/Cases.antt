@@ -1,11 +1,10 @@
--- The grammar at written bytes, and texts; the checker computes each.
+-- The grammar at written bytes; the checker computes each.
 -- Assumes nothing.
 use mathlib.Core.Path.{_≡_, refl}
 use mathlib.Core.List.{[], _∷_}
 use mathlib.Core.Option.{none, some}
 use lib.IntN.{pos, negℤ}
 use Rattle.text.specs.Grammar.{allDigits, valueOf, digitsOf, fitting, numberOf, wordsIn, both, numbersOf, lineOf}
-use Rattle.text.specs.Decimal.{decimal, countText, textOf, moreText, numbersText, lineText}
 
 -- -007, -0, 00012, and the greatest and the least number of 32 bits
 numbers :
@@ -42,15 +41,3 @@ lines :
     × (lineOf (0 ∷ []) ≡ none)
 unfolding lineOf wordsIn numbersOf both numberOf digitsOf allDigits valueOf fitting
 lines = (refl, refl, refl, refl, refl, refl, refl, refl)
-
--- 0, 10, -1, the greatest and the least number, the greatest count, and the line of 1 and -2
-texts :
-    (textOf (pos 0) ≡ 48 ∷ [])
-    × (textOf (pos 10) ≡ 49 ∷ 48 ∷ [])
-    × (textOf (negℤ (pos 1)) ≡ 45 ∷ 49 ∷ [])
-    × (textOf (pos 2147483647) ≡ 50 ∷ 49 ∷ 52 ∷ 55 ∷ 52 ∷ 56 ∷ 51 ∷ 54 ∷ 52 ∷ 55 ∷ [])
-    × (textOf (negℤ (pos 2147483648)) ≡ 45 ∷ 50 ∷ 49 ∷ 52 ∷ 55 ∷ 52 ∷ 56 ∷ 51 ∷ 54 ∷ 52 ∷ 56 ∷ [])
-    × (countText 18446744073709551615 ≡ 49 ∷ 56 ∷ 52 ∷ 52 ∷ 54 ∷ 55 ∷ 52 ∷ 52 ∷ 48 ∷ 55 ∷ 51 ∷ 55 ∷ 48 ∷ 57 ∷ 53 ∷ 53 ∷ 49 ∷ 54 ∷ 49 ∷ 53 ∷ [])
-    × (lineText (pos 1 ∷ negℤ (pos 2) ∷ []) ≡ 49 ∷ 32 ∷ 45 ∷ 50 ∷ 10 ∷ [])
-unfolding lineText numbersText moreText textOf countText decimal
-texts = (refl, refl, refl, refl, refl, refl, refl)

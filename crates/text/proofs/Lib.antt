@@ -1,9 +1,3 @@
-pub mod Choice
-pub mod DecimalLaws
-pub mod Written
-pub mod TextLaws
-pub mod LineLaws
 pub mod Words
 pub mod Lines
-pub mod RoundTrip
 pub mod Cases

@@ -15,7 +15,7 @@ use Rattle.fixed.proofs.HeldLaws.{held-inside, within-lo, within-hi}
 use Rattle.text.specs.Grammar.{isDigit, allDigits, valueOf, digitsOf, signed, least, greatest, fitting, numberOf}
 use Rattle.text.specs.Automaton.{wordStart, digitNext, otherNext, wordNext, wordAfter, wordSigned, wordOk, wordValue}
 use Rattle.text.specs.declared.Word.{Word}
-use Rattle.text.proofs.Choice.{by-test, by-order}
+use Rattle.fixed.proofs.Choice.{by-test, by-order}
 
 -- what a word is
 pub wordNumber : Word → Option ℤ

@@ -1,3 +1,2 @@
 pub mod Grammar
-pub mod Decimal
 pub mod Automaton

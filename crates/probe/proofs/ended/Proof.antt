@@ -4,7 +4,7 @@ use borrow.Author.Needs.{needs}
 use mathlib.Core.Path.{refl}
 use native.Mathlib.Omega.{arith}
 use denote.Ref.{now}
-use Rattle.text.proofs.Written.{written-none}
+use Rattle.writing.proofs.Written.{written-none}
 use Rattle.probe.proofs.ended.Statement.{statement}
 use Rattle.probe.proofs.ended.Tie as tie
 

@@ -2,7 +2,7 @@
 -- Assumes nothing.
 use borrow.Author.Needs.{needs}
 use native.Mathlib.Omega.{arith}
-use Rattle.text.proofs.TextLaws.{put, put-then}
+use Rattle.writing.proofs.TextLaws.{put, put-then}
 use Rattle.stream.specs.Program.{closingText}
 use Rattle.stream.proofs.ended.Statement.{statement}
 use Rattle.stream.proofs.ended.Tie as tie

@@ -3,8 +3,8 @@
 use borrow.Author.Needs.{needs}
 use native.Mathlib.Omega.{arith}
 use lib.ListN.{length-append}
-use Rattle.text.proofs.DecimalLaws.{count-length}
-use Rattle.text.proofs.TextLaws.{put, put-then}
+use Rattle.writing.proofs.DecimalLaws.{count-length}
+use Rattle.writing.proofs.TextLaws.{put, put-then}
 use Rattle.stream.specs.Program.{totalsText}
 use Rattle.stream.proofs.put_totals.Statement.{statement}
 use Rattle.stream.proofs.put_totals.Tie as tie

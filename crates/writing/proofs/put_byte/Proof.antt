@@ -1,0 +1,14 @@
+-- `writing::put_byte` meets its contract.
+-- Assumes nothing.
+use borrow.Author.Needs.{needs}
+use mathlib.Core.Path.{refl}
+use denote.Ref.{now}
+use Rattle.writing.proofs.Written.{written-one}
+use Rattle.writing.proofs.put_byte.Statement.{statement}
+use Rattle.writing.proofs.put_byte.Tie as tie
+
+returns : tie.Need-returns
+returns c = (refl, written-one (now (c .args .out)) (c .args .at) (c .args .b) (c .pre))
+
+pub put-byte-spec : {M : Type 1} → statement M
+put-byte-spec = tie.close (tie.spec (λ c. search needs) (λ c. search needs) (λ c. search needs) returns)
