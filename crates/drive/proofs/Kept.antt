@@ -22,7 +22,8 @@ use Rattle.stages.specs.declared.Stepped.{Stepped}
 use Rattle.stages.specs.Step.{advanced}
 use Rattle.stages.proofs.Kept.{advanced-sound}
 use Rattle.drive.specs.declared.Answered.{Answered}
-use Rattle.drive.specs.Calls.{fresh, withTrip, refused, soundTable, steppedSound, stepped, retargeted, withTarget, answered, targetTable, targeted, clearTable, cleared}
+use Rattle.drive.specs.Calls.{fresh, withTrip, refused, soundTable, steppedSound, stepped}
+use Rattle.drive.specs.Calls.{retargeted, withTarget, answered, targetTable, targeted, clearTable, cleared}
 use Rattle.drive.proofs.CallLaws.{ready-accepted}
 
 -- ════ a fresh drive

@@ -14,7 +14,8 @@ use lib.ListN.{length, getD, drop, set, drop-of-length-le, length-set}
 use lib.Seq.{drop-cons}
 use Rattle.fixed.proofs.HeldLaws.{and-right}
 use Rattle.text.specs.declared.Line.{Line}
-use Rattle.text.specs.Automaton.{takes, wordOk, wordValue, lineMore, lineBad, lineNext, lineEnd, numbersNext, numbersEnd, Reading, readNext, readAll, readEnd, lineRead}
+use Rattle.text.specs.Automaton.{takes, wordOk, wordValue, lineMore, lineBad, lineNext, lineEnd}
+use Rattle.text.specs.Automaton.{numbersNext, numbersEnd, Reading, readNext, readAll, readEnd, lineRead}
 use Rattle.fixed.proofs.Choice.{true-or-false}
 use Rattle.feeding.specs.Feeding.{partOf}
 
@@ -64,8 +65,10 @@ pub record Going (r : Reading) (chunk : List ℕ) (from : ℕ) (cur : Reading) (
   pub wide : length (cur .numbers) ≡ length (r .numbers)
   pub ahead : partOf r (drop from chunk) ≡ partOf cur (drop i chunk)
 
-pub going-on : {r : Reading} {chunk : List ℕ} {from : ℕ} {cur : Reading} {i : ℕ} {l : Line} {ns : List ℤ} → Going r chunk from cur i → i < length chunk → (getD chunk i 0 ≡ 10 → ⊥) →
-    l ≡ lineNext (cur .line) (getD chunk i 0) (length (cur .numbers)) → ns ≡ numbersNext (cur .line) (getD chunk i 0) (cur .numbers) → Going r chunk from (record { line = l; numbers = ns }) (i + 1)
+pub going-on : {r : Reading} {chunk : List ℕ} {from : ℕ} {cur : Reading} {i : ℕ} {l : Line} {ns : List ℤ}
+    → Going r chunk from cur i → i < length chunk → (getD chunk i 0 ≡ 10 → ⊥) →
+    l ≡ lineNext (cur .line) (getD chunk i 0) (length (cur .numbers))
+    → ns ≡ numbersNext (cur .line) (getD chunk i 0) (cur .numbers) → Going r chunk from (record { line = l; numbers = ns }) (i + 1)
 going-on {r} {chunk} {from} {cur} {i} {l} {ns} g h e el en = record {
   low = omega (arith, g .low);
   high = omega (arith, h);
@@ -79,12 +82,14 @@ Told r chunk from l ns ended i =
     (partOf r (drop from chunk) ≡ record { reading = record { line = l; numbers = ns }; ended = ended; behind = drop i chunk })
     × ((i ≤ length chunk) × (from < length chunk → from < i))
 
-pub going-ended : {r : Reading} {chunk : List ℕ} {from : ℕ} {cur : Reading} {i : ℕ} {l : Line} {ns : List ℤ} → Going r chunk from cur i → i < length chunk → getD chunk i 0 ≡ 10 →
+pub going-ended : {r : Reading} {chunk : List ℕ} {from : ℕ} {cur : Reading} {i : ℕ} {l : Line} {ns : List ℤ}
+    → Going r chunk from cur i → i < length chunk → getD chunk i 0 ≡ 10 →
     l ≡ lineEnd (cur .line) (length (cur .numbers)) → ns ≡ numbersEnd (cur .line) (cur .numbers) → Told r chunk from l ns true (i + 1)
 going-ended {r} {chunk} {from} {cur} {i} g h e el en =
     (g .ahead ∙ part-end cur chunk i h e ∙ rw (el, en) refl, (omega (arith, h), λ q. omega (arith, g .low)))
 
-pub going-past : {r : Reading} {chunk : List ℕ} {from : ℕ} {cur : Reading} {i : ℕ} → Going r chunk from cur i → length chunk ≤ i → Told r chunk from (cur .line) (cur .numbers) false i
+pub going-past : {r : Reading} {chunk : List ℕ} {from : ℕ} {cur : Reading} {i : ℕ}
+    → Going r chunk from cur i → length chunk ≤ i → Told r chunk from (cur .line) (cur .numbers) false i
 going-past {r} {chunk} {from} {cur} {i} g h =
     (g .ahead ∙ part-past cur chunk i h ∙ rw (drop-of-length-le chunk {i = i} h) refl, (g .high, λ q. omega (arith, h, q)))
 
@@ -93,7 +98,8 @@ pub part-length : (r : Reading) (bs : List ℕ) → length (partOf r bs .reading
 unfolding partOf
 part-length r [] = refl
 part-length r (b ∷ bs) =
-    ⊎-elim (λ e. rw e (end-length (r .line) (r .numbers))) (λ e. rw e (part-length (readNext r b) bs ∙ next-length (r .line) b (r .numbers))) (true-or-false (eqb b 10))
+    ⊎-elim (λ e. rw e (end-length (r .line) (r .numbers))) (λ e. rw e (part-length (readNext r b) bs ∙ next-length (r .line) b (r .numbers)))
+    (true-or-false (eqb b 10))
 
 -- of a line that was ended and is not bad, no more numbers are counted than there is room for
 end-count : (l : Line) (n : ℕ) → lineEnd l n .bad ≡ false → lineEnd l n .count ≤ n
@@ -104,7 +110,8 @@ end-count l n = by (wordOk (l .word) && ltb (l .count) n) refl
     by true e g = omega (arith, ltb-true (l .count) n (and-right (wordOk (l .word)) _ e))
     by false e g = absurd (true≢false g)
 
-pub part-count : (r : Reading) (bs : List ℕ) → partOf r bs .ended ≡ true → partOf r bs .reading .line .bad ≡ false → partOf r bs .reading .line .count ≤ length (r .numbers)
+pub part-count : (r : Reading) (bs : List ℕ) → partOf r bs .ended ≡ true
+    → partOf r bs .reading .line .bad ≡ false → partOf r bs .reading .line .count ≤ length (r .numbers)
 unfolding partOf
 part-count r [] = λ e g. absurd (true≢false (sym e))
 part-count r (b ∷ bs) =

@@ -45,7 +45,8 @@ module _ {T : Type 0} (fits : List ℤ → Bool) (after : T → List ℤ → T) 
   unfolding endText
   text-bad t r e = rw e refl
 
-  pub text-in-pieces : (s : Fed T) (xs ys : List ℕ) → textFed fits after answer s (xs ++ ys) ≡ textFed fits after answer s xs ++ textFed fits after answer (fedOf fits after s xs) ys
+  pub text-in-pieces : (s : Fed T) (xs ys : List ℕ)
+      → textFed fits after answer s (xs ++ ys) ≡ textFed fits after answer s xs ++ textFed fits after answer (fedOf fits after s xs) ys
   unfolding fedOf textFed
   text-in-pieces s [] ys = refl
   text-in-pieces s (x ∷ xs) ys =

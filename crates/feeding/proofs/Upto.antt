@@ -27,7 +27,8 @@ abbrev partAt : {T : Type 0} → T → Part → Fed T
 partAt t p = record { kept = t; reading = p .reading; begun = true; stopped = p .ended }
 
 -- whoever tests the line and its numbers by q finds out what `isGood` says, once it has ended
-pub good-test : (fits : List ℤ → Bool) (r : Reading) (bs : List ℕ) {p : Part} {q : Bool} → partOf r bs ≡ p → (p .reading .line .count ≤ length (p .reading .numbers) → fits (front (p .reading)) ≡ q) →
+pub good-test : (fits : List ℤ → Bool) (r : Reading) (bs : List ℕ) {p : Part} {q : Bool}
+    → partOf r bs ≡ p → (p .reading .line .count ≤ length (p .reading .numbers) → fits (front (p .reading)) ≡ q) →
     p .ended && isGood fits (p .reading) ≡ p .ended && (not (p .reading .line .bad) && q)
 unfolding isGood
 good-test fits r bs {p} {q} e f = by (p .ended) (p .reading .line .bad) refl refl
@@ -36,7 +37,8 @@ good-test fits r bs {p} {q} e f = by (p .ended) (p .reading .line .bad) refl ref
     by false b x y = refl
     by true true x y = refl
     by true false x y =
-        let c : p .reading .line .count ≤ length (r .numbers) = rw e at (part-count r bs (ap (λ (z : Part). z .ended) e ∙ x) (ap (λ (z : Part). z .reading .line .bad) e ∙ y)) in
+        let c : p .reading .line .count ≤ length (r .numbers) = rw e at
+        (part-count r bs (ap (λ (z : Part). z .ended) e ∙ x) (ap (λ (z : Part). z .reading .line .bad) e ∙ y)) in
         let l : length (p .reading .numbers) ≡ length (r .numbers) = rw e at (part-length r bs) in
         f (omega (arith, c, l))
 
@@ -45,7 +47,8 @@ module _ {T : Type 0} (fits : List ℤ → Bool) (after : T → List ℤ → T) 
   unfolding byteFed
   byte-end s b h e = rw (h, e) refl
 
-  byte-on : (s : Fed T) (b : ℕ) → s .stopped ≡ false → eqb b 10 ≡ false → byteFed fits after s b ≡ record { kept = s .kept; reading = readNext (s .reading) b; begun = true; stopped = false }
+  byte-on : (s : Fed T) (b : ℕ) → s .stopped ≡ false → eqb b 10 ≡ false
+      → byteFed fits after s b ≡ record { kept = s .kept; reading = readNext (s .reading) b; begun = true; stopped = false }
   unfolding byteFed
   byte-on s b h e = rw (h, e) refl
 
@@ -138,14 +141,16 @@ module _ {T : Type 0} (fits : List ℤ → Bool) (after : T → List ℤ → T) 
 
   part-text : (s : Fed T) (b : ℕ) (bs : List ℕ) → s .stopped ≡ false →
       textFed fits after answer s (b ∷ bs)
-      ≡ partText (s .kept) (partOf (s .reading) (b ∷ bs)) ++ textFed fits after answer (partFed fits after (s .kept) (partOf (s .reading) (b ∷ bs))) (partOf (s .reading) (b ∷ bs) .behind)
+      ≡ partText (s .kept) (partOf (s .reading) (b ∷ bs)) ++ textFed fits after answer
+      (partFed fits after (s .kept) (partOf (s .reading) (b ∷ bs))) (partOf (s .reading) (b ∷ bs) .behind)
   unfolding textFed partOf partFed partText
   part-text s b [] h =
       ⊎-elim (λ e. rw (text-end s b h e, e) refl) (λ e. rw (text-on s b h e, e) refl) (true-or-false (eqb b 10))
   part-text s b (c ∷ cs) h =
       ⊎-elim
       (λ e. rw (byte-end fits after s b h e, text-end s b h e, e) refl)
-      (λ e. rw (byte-on fits after s b h e, text-on s b h e, e) (part-text (record { kept = s .kept; reading = readNext (s .reading) b; begun = true; stopped = false }) c cs refl))
+      (λ e. rw (byte-on fits after s b h e, text-on s b h e, e)
+      (part-text (record { kept = s .kept; reading = readNext (s .reading) b; begun = true; stopped = false }) c cs refl))
       (true-or-false (eqb b 10))
 
   text-ahead : (cur : Fed T) (chunk : List ℕ) (i : ℕ) (p : Part) → i < length chunk → cur .stopped ≡ false → partOf (cur .reading) (drop i chunk) ≡ p →
@@ -196,7 +201,8 @@ module _ {T : Type 0} (fits : List ℤ → Bool) (after : T → List ℤ → T) 
           stands = put-then (w .stands) y (omega (arith, w .stands .next, r, w .long));
         }
 
-    pub wrote-good : {next : List ℕ} {end : ℕ} → p .ended && isGood fits (p .reading) ≡ true → Put out place (answer (cur .kept) (front (p .reading))) next end → end ≤ place + m →
+    pub wrote-good : {next : List ℕ} {end : ℕ} → p .ended && isGood fits (p .reading) ≡ true
+        → Put out place (answer (cur .kept) (front (p .reading))) next end → end ≤ place + m →
         Wrote m s chunk at o next (lineDue (after (cur .kept) (front (p .reading))) (p .reading .numbers)) end j
     wrote-good f = wrote-part (part-good fits after (cur .kept) p f) (good-text (cur .kept) p f)
 
@@ -204,16 +210,19 @@ module _ {T : Type 0} (fits : List ℤ → Bool) (after : T → List ℤ → T) 
     wrote-else f = wrote-part (part-else fits after (cur .kept) p f) (else-text (cur .kept) p f) put-none (omega arith)
 
   -- the end: nothing is left to write
-  module _ {m : ℕ} {s : Fed T} {chunk : List ℕ} {at : ℕ} {o out : List ℕ} {cur : Fed T} {place i : ℕ} (w : Wrote m s chunk at o out cur place i) (h : i ≤ length chunk) where
+  module _ {m : ℕ} {s : Fed T} {chunk : List ℕ} {at : ℕ} {o out : List ℕ} {cur : Fed T} {place i : ℕ}
+      (w : Wrote m s chunk at o out cur place i) (h : i ≤ length chunk) where
     wrote-all : textFed fits after answer cur (drop i chunk) ≡ [] →
         (place ≡ at + length (textFed fits after answer s chunk)) × (out ≡ written o at (textFed fits after answer s chunk)) × (place ≤ at + m * length chunk)
     wrote-all e =
         let t : textFed fits after answer s chunk ≡ w .text = w .all-text ∙ ap (λ (l : List ℕ). w .text ++ l) e ∙ append-nil (w .text) in
         (rw t (w .stands .next), rw t (w .stands .wrote), omega (arith, w .near, mul-le-mul-left m h))
 
-    pub wrote-past : length chunk ≤ i → (place ≡ at + length (textFed fits after answer s chunk)) × (out ≡ written o at (textFed fits after answer s chunk)) × (place ≤ at + m * length chunk)
+    pub wrote-past : length chunk ≤ i → (place ≡ at + length (textFed fits after answer s chunk))
+        × (out ≡ written o at (textFed fits after answer s chunk)) × (place ≤ at + m * length chunk)
     unfolding textFed
     wrote-past q = wrote-all (rw (drop-of-length-le chunk {i = i} q) refl)
 
-    pub wrote-stopped : cur .stopped ≡ true → (place ≡ at + length (textFed fits after answer s chunk)) × (out ≡ written o at (textFed fits after answer s chunk)) × (place ≤ at + m * length chunk)
+    pub wrote-stopped : cur .stopped ≡ true → (place ≡ at + length (textFed fits after answer s chunk))
+        × (out ≡ written o at (textFed fits after answer s chunk)) × (place ≤ at + m * length chunk)
     wrote-stopped q = wrote-all (text-stopped fits after answer cur (drop i chunk) q)

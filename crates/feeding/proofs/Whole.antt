@@ -42,13 +42,15 @@ module _ {T : Type 0} (fits : List ℤ → Bool) (after : T → List ℤ → T) 
   unfolding byteFed
   byte-on t o p b e = rw (e, read-more (lineAt o) p b, any-more p b) refl
 
-  at-byte : (t : T) (o : List ℤ) (p : List ℕ) (b : ℕ) (bs : List ℕ) → eqb b 10 ≡ false → Coming t (within t o (p ++ (b ∷ []))) bs (linesOf (p ++ (b ∷ [])) bs) (restOf (p ++ (b ∷ [])) bs) →
+  at-byte : (t : T) (o : List ℤ) (p : List ℕ) (b : ℕ) (bs : List ℕ)
+      → eqb b 10 ≡ false → Coming t (within t o (p ++ (b ∷ []))) bs (linesOf (p ++ (b ∷ [])) bs) (restOf (p ++ (b ∷ [])) bs) →
       Coming t (within t o p) (b ∷ bs) (linesOf p (b ∷ bs)) (restOf p (b ∷ bs))
   unfolding fedOf textFed linesOf restOf byteText
   at-byte t o p b bs e c = rw (byte-on t o p b e, e) c
 
   -- a line has ended: a good one, behind which the others come, or the last that is looked at
-  ended : (t : T) (r : Reading) (p bs : List ℕ) (ws : List (List ℕ)) (w : List ℕ) → told fits r ≡ goodIn fits p → Coming (after t (front r)) (lineDue (after t (front r)) (r .numbers)) bs ws w →
+  ended : (t : T) (r : Reading) (p bs : List ℕ) (ws : List (List ℕ)) (w : List ℕ)
+      → told fits r ≡ goodIn fits p → Coming (after t (front r)) (lineDue (after t (front r)) (r .numbers)) bs ws w →
       Comes t (fedOf fits after (endFed fits after t r) bs) (endText fits answer t r ++ textFed fits after answer (endFed fits after t r) bs) (p ∷ ws) w
   unfolding goodOf goodThen badOf badOr afterAll answersTo
   ended t r p bs ws w l c =

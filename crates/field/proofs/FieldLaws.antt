@@ -29,8 +29,28 @@ pub flux-between : (kr flux d : ℤ) → pos 0 ≤ℤ kr → kr ≤ℤ pos 4096 
 unfolding fluxNext
 flux-between kr flux d k0 k1 =
     record {
-      rising = λ h. omega (arith, order, parts-- d flux, parts-+ flux (down (kr *ℤ (d -ℤ flux)) (pos 4096)), down-low-parts (kr *ℤ (d -ℤ flux)) 4096 (lit< tt), down-high-parts (kr *ℤ (d -ℤ flux)) 4096 (lit< tt), parts-* (pos 4096) (d -ℤ flux), *-nonneg k0 (gap-up flux d h), up-hi kr (d -ℤ flux) (*-nonneg (gap-up kr (pos 4096) k1) (gap-up flux d h)));
-      falling = λ h. omega (arith, order, parts-- d flux, parts-+ flux (down (kr *ℤ (d -ℤ flux)) (pos 4096)), down-low-parts (kr *ℤ (d -ℤ flux)) 4096 (lit< tt), down-high-parts (kr *ℤ (d -ℤ flux)) 4096 (lit< tt), parts-* (pos 4096) (d -ℤ flux), down-hi kr (d -ℤ flux) (*-nonneg k0 (gap-down d flux h)), down-lo kr (d -ℤ flux) (*-nonneg (gap-up kr (pos 4096) k1) (gap-down d flux h)));
+      rising = λ h. omega (
+        arith,
+        order,
+        parts-- d flux,
+        parts-+ flux (down (kr *ℤ (d -ℤ flux)) (pos 4096)),
+        down-low-parts (kr *ℤ (d -ℤ flux)) 4096 (lit< tt),
+        down-high-parts (kr *ℤ (d -ℤ flux)) 4096 (lit< tt),
+        parts-* (pos 4096) (d -ℤ flux),
+        *-nonneg k0 (gap-up flux d h),
+        up-hi kr (d -ℤ flux) (*-nonneg (gap-up kr (pos 4096) k1) (gap-up flux d h)),
+      );
+      falling = λ h. omega (
+        arith,
+        order,
+        parts-- d flux,
+        parts-+ flux (down (kr *ℤ (d -ℤ flux)) (pos 4096)),
+        down-low-parts (kr *ℤ (d -ℤ flux)) 4096 (lit< tt),
+        down-high-parts (kr *ℤ (d -ℤ flux)) 4096 (lit< tt),
+        parts-* (pos 4096) (d -ℤ flux),
+        down-hi kr (d -ℤ flux) (*-nonneg k0 (gap-down d flux h)),
+        down-lo kr (d -ℤ flux) (*-nonneg (gap-up kr (pos 4096) k1) (gap-down d flux h)),
+      );
     }
 
 -- so it stays within ±20000, as d does

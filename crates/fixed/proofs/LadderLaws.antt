@@ -12,7 +12,8 @@ use lib.Dec.{T, eqb, eqb-refl}
 use lib.IntN.{ℤ, pos, natAbs}
 use lib.ListN.{length}
 use lib.Signed.{leZ}
-use Rattle.fixed.specs.Ladder.{Rung, when, unless, gives, firstOf, answerOf, allPass, numberAt, answerAt, Reached, Exactly, allGive, other, distinct, Numbered, answeredBy}
+use Rattle.fixed.specs.Ladder.{Rung, when, unless, gives, firstOf, answerOf, allPass, numberAt}
+use Rattle.fixed.specs.Ladder.{answerAt, Reached, Exactly, allGive, other, distinct, Numbered, answeredBy}
 use Rattle.fixed.proofs.HeldLaws.{and-left, and-right}
 
 -- a number that is other than n is not n
@@ -58,9 +59,11 @@ module _ {A : Type 0} where
 
   exactly-of : (rs : List (Rung A)) → distinct rs ≡ true → (i : ℕ) → (firstOf rs ≡ numberAt rs i) ↔ Reached rs i
   exactly-of [] d i = (λ h. tt, λ h. refl)
-  exactly-of (r ∷ rs) d i = by r i (and-left (allGive (other (gives r)) rs) (distinct rs) d) (exactly-of rs (and-right (allGive (other (gives r)) rs) (distinct rs) d))
+  exactly-of (r ∷ rs) d i =
+      by r i (and-left (allGive (other (gives r)) rs) (distinct rs) d) (exactly-of rs (and-right (allGive (other (gives r)) rs) (distinct rs) d))
     where
-      by : (r : Rung A) (i : ℕ) → allGive (other (gives r)) rs ≡ true → ((i : ℕ) → (firstOf rs ≡ numberAt rs i) ↔ Reached rs i) → (firstOf (r ∷ rs) ≡ numberAt (r ∷ rs) i) ↔ Reached (r ∷ rs) i
+      by : (r : Rung A) (i : ℕ) → allGive (other (gives r)) rs ≡ true
+          → ((i : ℕ) → (firstOf rs ≡ numberAt rs i) ↔ Reached rs i) → (firstOf (r ∷ rs) ≡ numberAt (r ∷ rs) i) ↔ Reached (r ∷ rs) i
       by (when true n x) zero o e = (λ h. refl, λ h. refl)
       by (when false n x) zero o e = (λ h. absurd (never n rs o h), λ h. absurd (false≢true h))
       by (when true n x) (suc i) o e = (λ h. elsewhere n rs i o h, λ h. absurd (true≢false (h .0)))

@@ -55,7 +55,8 @@ module _ (i j : ℕ) (sin cos : ℤ) (hs : natAbs sin ≤ 4096) (hc : natAbs cos
   back-beta-size v h k = sum-size j i (v .q) (v .d) cos sin k h hc hs
 
 -- d and q of accepted samples
-pub rotor-size : (ia ib sin cos : ℤ) → natAbs ia ≤ sampleEnd → natAbs ib ≤ sampleEnd → natAbs (ia +ℤ ib) ≤ sampleEnd → natAbs sin ≤ 4096 → natAbs cos ≤ 4096 → (natAbs (park (clarke ia ib) sin cos .d) ≤ rotorEnd) × (natAbs (park (clarke ia ib) sin cos .q) ≤ rotorEnd)
+pub rotor-size : (ia ib sin cos : ℤ) → natAbs ia ≤ sampleEnd → natAbs ib ≤ sampleEnd → natAbs (ia +ℤ ib) ≤ sampleEnd
+    → natAbs sin ≤ 4096 → natAbs cos ≤ 4096 → (natAbs (park (clarke ia ib) sin cos .d) ≤ rotorEnd) × (natAbs (park (clarke ia ib) sin cos .q) ≤ rotorEnd)
 rotor-size ia ib sin cos a b e hs hc =
     let h = alpha-size ia ib a in
     let k = beta-size ia ib b e in

@@ -18,8 +18,10 @@ use prog.Wp.{Heap, Env, Calls, Loops, WpFn, Tables, Closed, noLocal}
 use ghost.Atoms.{Atoms}
 use contract.Lifetimes.{Lfts}
 use contract.Running.{GhostRules, Running, givenOf, tables, tablesOf}
-use types.Kit.{Given, Item, Step, prop, ‵, _⊛_, _$_, _∵_, !, qed, by, move, keep, drop, use0, split, join, fsplit, fsplit3, fjoin, fjoin3, feqI, suffices, frame, done}
-use types.Run.{look, look-raw, init, store, store-raw, forget, stop, hop, from, load, and-then, no-more, land, of-opd, assigns, returns, enter, alloc1, alloc0, params1, pass1, pass0, free1, free0}
+use types.Kit.{Given, Item, Step, prop, ‵, _⊛_, _$_, _∵_, !, qed, by, move}
+use types.Kit.{keep, drop, use0, split, join, fsplit, fsplit3, fjoin, fjoin3, feqI, suffices, frame, done}
+use types.Run.{look, look-raw, init, store, store-raw, forget, stop, hop, from, load, and-then, no-more}
+use types.Run.{land, of-opd, assigns, returns, enter, alloc1, alloc0, params1, pass1, pass0, free1, free0}
 use types.SemTy.{Body as Lying}
 use sound.WpLaws.{FmC, fmOf, WpFn-mono}
 use denote.RattleType.{Denots, Valss, owns}
@@ -36,7 +38,9 @@ use denote.Triple.Spec.{Meets, tripleOf}
 use denote.Triple.Table.{entered, cited}
 use denote.Triple.Clauses.{Clauses, Ended, atExit, closing}
 use denote.Triple.Walked.{Stays, stay-ref, walkOf, goes-ref, Walks, hasOf, ends-at, walked, walk-meets}
-use Rattle.interrupt.proofs.Words.{Word, Kind, struct, Stands, slots, keeps, stays, goes, rows, spells, tellss, lists, vals, Good, lasts, fits, had, handed, vals-handed, good-handed, Blocks, locals, env, past, past-is, operands, alloc-all, pass-all, free-all, here, reads-first, read-all}
+use Rattle.interrupt.proofs.Words.{Word, Kind, struct, Stands, slots, keeps, stays, goes, rows, spells, tellss, lists, vals, Good, lasts, fits}
+use Rattle.interrupt.proofs.Words.{had, handed, vals-handed, good-handed, Blocks, locals, env, past}
+use Rattle.interrupt.proofs.Words.{past-is, operands, alloc-all, pass-all, free-all, here, reads-first, read-all}
 use Rattle.interrupt.proofs.PlainCalls.{Answers, Returns, returned, calls-plain}
 
 -- a goal P ∗ Q, where Q is had for nothing

@@ -21,7 +21,8 @@ record Least (a b z : ℤ) : Type 0 where
 
 least : (a b : ℤ) → pos 0 ≤ℤ a → pos 0 ≤ℤ b → Least a b (lesser a b)
 unfolding lesser
-least a b h k = cond-ind (ltZ b a) b a (Least a b) (λ t. let l : b <ℤ a = ltZ-yes t in omega (arith, order)) (λ t. let l : a ≤ℤ b = ltZ-no t in omega (arith, order))
+least a b h k = cond-ind (ltZ b a) b a (Least a b) (λ t. let l : b <ℤ a = ltZ-yes t in omega (arith, order))
+    (λ t. let l : a ≤ℤ b = ltZ-no t in omega (arith, order))
 
 pub cut-room : (t t1 t2 : ℤ) → pos 0 ≤ℤ t → pos 0 ≤ℤ t1 → pos 0 ≤ℤ t2 → Room t (cut t t1 t2)
 unfolding cut
@@ -41,7 +42,8 @@ cut-marked t t1 t2 = refl
 
 -- ════ of every step
 -- a fact of the times, by the two ways
-clipped-cases : (R : Times → Type 0) (t t1 t2 : ℤ) → R (cut t t1 t2) → ((t1 +ℤ t2) ≤ℤ t → R (record { t1 = t1; t2 = t2; clipped = false })) → R (clippedTimes t t1 t2)
+clipped-cases : (R : Times → Type 0) (t t1 t2 : ℤ) → R (cut t t1 t2)
+    → ((t1 +ℤ t2) ≤ℤ t → R (record { t1 = t1; t2 = t2; clipped = false })) → R (clippedTimes t t1 t2)
 unfolding clippedTimes
 clipped-cases R t t1 t2 f g = by (ltZ t (t1 +ℤ t2)) (λ s. ltZ-no s)
   where

@@ -16,7 +16,8 @@ use Rattle.fixed.proofs.Size.{abs←}
 use Rattle.fixed.proofs.DownLaws.{down-low, down-high, down-low-parts, down-high-parts, le-down}
 use Rattle.modulation.specs.declared.Sector.{Sector}
 use Rattle.modulation.specs.declared.Times.{Times}
-use Rattle.modulation.specs.Modulation.{A, B, entriesOf, sectorOf, timeOf, timesOf, compareAt, placed, modulated, InPeriod, AllInPeriod, on, Near, AsAsked, Room}
+use Rattle.modulation.specs.Modulation.{A, B, entriesOf, sectorOf, timeOf, timesOf, compareAt}
+use Rattle.modulation.specs.Modulation.{placed, modulated, InPeriod, AllInPeriod, on, Near, AsAsked, Room}
 use Rattle.modulation.proofs.Sectors.{level, serves}
 use Rattle.modulation.proofs.Clipping.{Kept, kept, clipped-room}
 
@@ -36,14 +37,25 @@ times-room t va vb h = clipped-room t _ _ h (times-up t va vb h .0) (times-up t 
 
 -- ════ the compares lie within 0..T
 -- the first, the second and the third of them
-all-within : (t : ℤ) (h : Times) → Room t h → InPeriod t (compareAt 0 t (h .t1) (h .t2)) × InPeriod t (compareAt 1 t (h .t1) (h .t2)) × InPeriod t (compareAt 2 t (h .t1) (h .t2))
+all-within : (t : ℤ) (h : Times) → Room t h → InPeriod t (compareAt 0 t (h .t1) (h .t2))
+    × InPeriod t (compareAt 1 t (h .t1) (h .t2)) × InPeriod t (compareAt 2 t (h .t1) (h .t2))
 unfolding compareAt
 all-within t h r =
     let t1 = h .t1 in
     let t2 = h .t2 in
     let rest = t -ℤ t1 -ℤ t2 in
     let p = down rest (pos 2) in
-    omega (arith, order, parts-+ t1 t2, parts-- t t1, parts-- (t -ℤ t1) t2, down-low-parts rest 2 (lit< tt), down-high-parts rest 2 (lit< tt), parts-+ p t1, parts-+ (p +ℤ t1) t2)
+    omega (
+      arith,
+      order,
+      parts-+ t1 t2,
+      parts-- t t1,
+      parts-- (t -ℤ t1) t2,
+      down-low-parts rest 2 (lit< tt),
+      down-high-parts rest 2 (lit< tt),
+      parts-+ p t1,
+      parts-+ (p +ℤ t1) t2,
+    )
 
 pub compare-within : (k : ℕ) (t : ℤ) (h : Times) → Room t h → InPeriod t (compareAt k t (h .t1) (h .t2))
 unfolding compareAt

@@ -48,7 +48,8 @@ pub record Sized (r : Sector) : Type 0 where
 
 pub sector-sized : (n : ℕ) (e : Entries) → Small e → Sized (sectorAt n e)
 unfolding sectorAt Each
-sector-sized n e h = each-at Sized (sectors (e .x) (e .y) (e .z)) (a·b·c (pos 0) (pos 0)) (omega (arith, abs-neg (e .x), abs-neg (e .y), abs-neg (e .z))) (omega arith) n
+sector-sized n e h =
+    each-at Sized (sectors (e .x) (e .y) (e .z)) (a·b·c (pos 0) (pos 0)) (omega (arith, abs-neg (e .x), abs-neg (e .y), abs-neg (e .z))) (omega arith) n
 
 -- ════ the times
 pub time-size : (t e : ℤ) → natAbs t ≤ longest → natAbs e ≤ entryEnd → natAbs (timeOf t e) ≤ 100000
@@ -59,5 +60,7 @@ time-size t e h k =
 
 -- times with room in the period are no longer than it
 pub room-size : (t : ℤ) (h : Times) → natAbs t ≤ longest → Room t h → (natAbs (h .t1) ≤ longest) × (natAbs (h .t2) ≤ longest)
-room-size t h k r =
-    (abs← longest (h .t1) (omega (arith, order)) (omega (arith, order, abs-hi longest t k, parts-+ (h .t1) (h .t2))), abs← longest (h .t2) (omega (arith, order)) (omega (arith, order, abs-hi longest t k, parts-+ (h .t1) (h .t2))))
+room-size t h k r = (
+  abs← longest (h .t1) (omega (arith, order)) (omega (arith, order, abs-hi longest t k, parts-+ (h .t1) (h .t2))),
+  abs← longest (h .t2) (omega (arith, order)) (omega (arith, order, abs-hi longest t k, parts-+ (h .t1) (h .t2))),
+)

@@ -41,7 +41,11 @@ unfolding isCall callBy
 front-call ns n l =
     let of : (k : ℤ) (c : ℕ) → ownAt ≤ c → eqb n c && (call (take n ns) k && flags (take n ns)) ≡ eqb n c && (call ns k && flags ns) =
     λ k c m. asked ns n c (λ (x : List ℤ). call x k && flags x)
-    (rw (getD-take c ns 0 (pos 0) (omega (arith, m)), getD-take c ns (recordAt + 1) (pos 0) (omega (arith, m)), getD-take c ns (recordAt + 14) (pos 0) (omega (arith, m))) refl) in
+    (rw (
+      getD-take c ns 0 (pos 0) (omega (arith, m)),
+      getD-take c ns (recordAt + 1) (pos 0) (omega (arith, m)),
+      getD-take c ns (recordAt + 14) (pos 0) (omega (arith, m)),
+    ) refl) in
     let made = asked ns n recordAt (λ (x : List ℤ). call x (pos 0)) (rw (getD-take recordAt ns 0 (pos 0) (omega arith)) refl) in
     rw (length-take-le n ns l, made, of (pos 1) most (omega arith), of (pos 2) (ownAt + 1) (omega arith), of (pos 3) ownAt (omega arith)) refl
 

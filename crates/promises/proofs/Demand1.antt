@@ -20,16 +20,20 @@ use Rattle.drive_record.specs.Record.{broken}
 use Rattle.stages.specs.declared.Stepped.{Stepped}
 use Rattle.stages.specs.Step.{rules3To9, rules6To9, outcome, advanced}
 use Rattle.drive.specs.declared.Made.the-variants.{Ready}
-use Rattle.drive.specs.Calls.{fresh, makeTable, made, madeNumber, withTrip, refused, stepTable, stepped, answered, withTarget, targetTable, targeted, clearTable, cleared}
+use Rattle.drive.specs.Calls.{fresh, makeTable, made, madeNumber, withTrip, refused, stepTable}
+use Rattle.drive.specs.Calls.{stepped, answered, withTarget, targetTable, targeted, clearTable, cleared}
 use Rattle.drive.proofs.CallLaws.{made-is}
 use Rattle.rows.specs.declared.Ran.{Ran}
 use Rattle.rows.specs.Rows.{isAccepted, noRows, afterRow, ranOf, rowsIn, rowsFit, runTable, runOf, outputAfter}
-use Rattle.promises.specs.Demand1.{CheckTable, MakeTable, DriveOrNumber, ZeroIfAccepted, StepTable, TargetTable, ClearTable, Run, unrun, allRun, RunTable, spare, KeptFree}
+use Rattle.promises.specs.Demand1.{CheckTable, MakeTable, DriveOrNumber, ZeroIfAccepted, StepTable, TargetTable}
+use Rattle.promises.specs.Demand1.{ClearTable, Run, unrun, allRun, RunTable, spare, KeptFree}
 
 -- ════ a run's two answers are one
-ran-is : (d : Drive) (samples out : List ℤ) → _≡_ {A = Run} (runOf d samples out, outputAfter d samples out) (answerOf (runTable d samples out (unrun d out)) (allRun d samples out))
+ran-is : (d : Drive) (samples out : List ℤ)
+    → _≡_ {A = Run} (runOf d samples out, outputAfter d samples out) (answerOf (runTable d samples out (unrun d out)) (allRun d samples out))
 unfolding runOf outputAfter
-ran-is d samples out = by (broken d) (rowsFit (length samples) (length out)) (noRows d (pos 14)) (noRows d (pos 9)) (allRun d samples out .0) out (allRun d samples out .1)
+ran-is d samples out =
+    by (broken d) (rowsFit (length samples) (length out)) (noRows d (pos 14)) (noRows d (pos 9)) (allRun d samples out .0) out (allRun d samples out .1)
   where
     by : (b f : Bool) (x y z : Ran) (o w : List ℤ) → _≡_ {A = Run} (cond b x (cond f z y), cond b o (cond f w o)) (cond b (x, o) (cond f (z, w) (y, o)))
     by true f x y z o w = refl
@@ -63,7 +67,8 @@ pub clear-climbs : (d : Drive) → Climbs (λ a. a .number) (clearTable d) (answ
 unfolding cleared
 clear-climbs d = record { is = refl; numbered = (refl, (refl, refl)); apart = refl }
 
-pub run-climbs : (d : Drive) (samples out : List ℤ) → Climbs (λ (r : Run). r .0 .number) (runTable d samples out (unrun d out)) (allRun d samples out) (runOf d samples out, outputAfter d samples out)
+pub run-climbs : (d : Drive) (samples out : List ℤ)
+    → Climbs (λ (r : Run). r .0 .number) (runTable d samples out (unrun d out)) (allRun d samples out) (runOf d samples out, outputAfter d samples out)
 unfolding noRows
 run-climbs d samples out = record { is = ran-is d samples out; numbered = (refl, (refl, own d samples (rowsIn samples))); apart = refl }
 
@@ -112,8 +117,14 @@ module _ (d : Drive) (ia ib count : ℤ) where
       → ((n : ℤ) → within (pos 0) (pos 0) n ≡ false → Q (refused (withTrip d) (d .settings .t) n))
       → (stepped d ia ib count .number ≡ pos 0 → Q (advanced d ia ib count)) → Q (stepped d ia ib count)
   by-outcome Q spoilt same marked by-rules =
-      holds (step-climbs d ia ib count) Q
-      (λ b. spoilt b, λ b. (λ t. same (pos 7) refl t, λ t. (λ s. marked (pos 6) refl, λ s. by-rules (step-table d ia ib count .given (length (stepTable d ia ib count)) .1 (b, (t, (s, tt)))))))
+      holds (step-climbs d ia ib count) Q (
+        λ b. spoilt b,
+        λ b. (
+          λ t. same (pos 7) refl t,
+          λ t.
+              (λ s. marked (pos 6) refl, λ s. by-rules (step-table d ia ib count .given (length (stepTable d ia ib count)) .1 (b, (t, (s, tt))))),
+        ),
+      )
 
 -- ════ 11 to 13 are kept free
 pub kept-free : KeptFree

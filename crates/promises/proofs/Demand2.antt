@@ -13,7 +13,8 @@ use Rattle.sine.proofs.Rule.{sine-entry, cosine-entry}
 use Rattle.drive.specs.Calls.{stepTable, fresh}
 use Rattle.rows.specs.Rows.{isAccepted, isClipped, one, noRows, afterRow, ranOf, writtenOf, rowsIn, rowsFit}
 use Rattle.promises.specs.Histories.{afterCalls, rowAt, countOf}
-use Rattle.promises.specs.Demand2.{StepByTheRules, SineByTheLadder, RunByRows, RunAccepted, RunOfNone, StaysUnbroken, NeverBroken, SettingsStay, SettingsAsAccepted}
+use Rattle.promises.specs.Demand2.{StepByTheRules, SineByTheLadder, RunByRows, RunAccepted}
+use Rattle.promises.specs.Demand2.{RunOfNone, StaysUnbroken, NeverBroken, SettingsStay, SettingsAsAccepted}
 use Rattle.promises.proofs.Demand1.{step-table, passed, run-table}
 use Rattle.promises.proofs.Keeping.{all-sound, reached-sound, calls-settings}
 

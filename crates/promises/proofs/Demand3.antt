@@ -22,7 +22,8 @@ use Rattle.modulation.proofs.Compares.{compares-within, on-times}
 use Rattle.drive_record.specs.declared.Drive.{Drive}
 use Rattle.fixed.proofs.Ranges.{Inside}
 use Rattle.drive_record.proofs.Ranges.{Sound, not-broken}
-use Rattle.stages.specs.Step.{speedGains, currentGains, speedRegulated, currentRegulated, withTorque, withSpeed, withShaft, withCommand, commanded, rules1And2, dRegulated, qRegulated, voltageOf, voltageFor, withField, outcome, rules6To9, rules3To9, advanced}
+use Rattle.stages.specs.Step.{speedGains, currentGains, speedRegulated, currentRegulated, withTorque, withSpeed, withShaft, withCommand, commanded}
+use Rattle.stages.specs.Step.{rules1And2, dRegulated, qRegulated, voltageOf, voltageFor, withField, outcome, rules6To9, rules3To9, advanced}
 use Rattle.drive.specs.Calls.{refused, stepped}
 use Rattle.stages.proofs.Sizes as size
 use Rattle.stages.proofs.Kept as kept
@@ -30,7 +31,8 @@ use Rattle.rows.specs.Rows.{rowStepped, ranOf}
 use Rattle.rows.proofs.Runs.{rows-sound}
 use Rattle.promises.specs.Histories.{rowAt}
 use Rattle.promises.specs.Words.{seen, issued, dError, qError, next, speedError}
-use Rattle.promises.specs.Demand3.{EachStep, EachStepAndRow, IntegralsWithin, IntegralsBetween, OutputsLeave, PulsesAsAsked, ComparesOfAnyStep, ComparesOfAnyRow}
+use Rattle.promises.specs.Demand3.{EachStep, EachStepAndRow, IntegralsWithin, IntegralsBetween}
+use Rattle.promises.specs.Demand3.{OutputsLeave, PulsesAsAsked, ComparesOfAnyStep, ComparesOfAnyRow}
 use Rattle.promises.proofs.Demand1.{passed, by-outcome}
 use Rattle.promises.proofs.Demand2.{step-by-the-rules}
 use Rattle.promises.proofs.Keeping.{reached-sound, turned-keeps, turned-settings, rows-settings}
@@ -93,13 +95,15 @@ module _ (d : Drive) (ia ib count : ℤ) (ok : stepped d ia ib count .number ≡
   unfolding regulated
   leaves-top x e i h =
       subst (λ (v : ℤ). out x e <ℤ v) (ap (λ s. s .v) (turned-settings d count))
-      (fact.leaves-top x e (currentGains (mid .settings)) (mid .settings .v) current (size.v-lo mid mid-sound) (within-hi (negℤ (mid .settings .v)) (mid .settings .v) x i) h)
+      (fact.leaves-top x e (currentGains (mid .settings)) (mid .settings .v) current
+      (size.v-lo mid mid-sound) (within-hi (negℤ (mid .settings .v)) (mid .settings .v) x i) h)
 
   leaves-bottom : (x e : ℤ) → Inside (mid .settings .v) x → pos 4096 ≤ℤ (e *ℤ d .settings .ckp) → negℤ (d .settings .v) <ℤ out x e
   unfolding regulated currentGains
   leaves-bottom x e i h =
       subst (λ (v : ℤ). negℤ v <ℤ out x e) (ap (λ s. s .v) (turned-settings d count))
-      (fact.leaves-bottom x e (currentGains (mid .settings)) (mid .settings .v) current (size.v-lo mid mid-sound) (within-lo (negℤ (mid .settings .v)) (mid .settings .v) x i)
+      (fact.leaves-bottom x e (currentGains (mid .settings))
+      (mid .settings .v) current (size.v-lo mid mid-sound) (within-lo (negℤ (mid .settings .v)) (mid .settings .v) x i)
       (subst (λ (k : ℤ). pos 4096 ≤ℤ (e *ℤ k)) (ap (λ s. s .ckp) (sym (turned-settings d count))) h))
 
   -- the speed regulator, which runs in a tick and gives the torque reference
@@ -135,7 +139,8 @@ module _ (d : Drive) (ia ib count : ℤ) (ok : stepped d ia ib count .number ≡
 
   -- each regulator runs by the regulator fact, from the integral that the drive had
   step-integrals : IntegralsBetween d ia ib count
-  unfolding issued voltageFor voltageOf dRegulated qRegulated currentRegulated commanded withCommand withTorque withSpeed withShaft speedRegulated regulated
+  unfolding issued voltageFor voltageOf dRegulated qRegulated currentRegulated
+      commanded withCommand withTorque withSpeed withShaft speedRegulated regulated
   step-integrals = record {
     d-axis = renamed (turned-d d count) new-d (between (mid .integrals .d) (mid .command .flux -ℤ seen d ia ib .d));
     q-axis = renamed (turned-q d count) new-q (between (mid .integrals .q) (mid .command .torque -ℤ seen d ia ib .q));
@@ -146,7 +151,8 @@ module _ (d : Drive) (ia ib count : ℤ) (ok : stepped d ia ib count .number ≡
   }
 
   step-outputs : OutputsLeave d ia ib count
-  unfolding dError qError issued voltageFor voltageOf dRegulated qRegulated currentRegulated commanded withCommand withTorque withSpeed speedRegulated speedGains regulated
+  unfolding dError qError issued voltageFor voltageOf dRegulated qRegulated currentRegulated
+      commanded withCommand withTorque withSpeed speedRegulated speedGains regulated
   step-outputs = record {
     d-top = λ e. leaves-top (mid .integrals .d) (dError d ia ib count) (mid-sound .integrals .d) e;
     d-bottom = λ e. leaves-bottom (mid .integrals .d) (dError d ia ib count) (mid-sound .integrals .d) e;
@@ -154,10 +160,12 @@ module _ (d : Drive) (ia ib count : ℤ) (ok : stepped d ia ib count .number ≡
     q-bottom = λ e. leaves-bottom (mid .integrals .q) (qError d ia ib count) (mid-sound .integrals .q) e;
     speed-top = λ t e.
         subst (λ (o : ℤ). o <ℤ d .settings .q) (sym (ap (λ c. c .torque) (new-command true t)))
-        (fact.leaves-top (d .integrals .speed) _ (speedGains (d .settings)) (d .settings .q) speed (size.q-lo d met) (within-hi (negℤ (d .settings .q)) (d .settings .q) (d .integrals .speed) (met .integrals .speed)) (subst (λ (k : ℤ). k <ℤ pos 0) (error-is t) e));
+        (fact.leaves-top (d .integrals .speed) _ (speedGains (d .settings)) (d .settings .q) speed (size.q-lo d met)
+        (within-hi (negℤ (d .settings .q)) (d .settings .q) (d .integrals .speed) (met .integrals .speed)) (subst (λ (k : ℤ). k <ℤ pos 0) (error-is t) e));
     speed-bottom = λ t e.
         subst (λ (o : ℤ). negℤ (d .settings .q) <ℤ o) (sym (ap (λ c. c .torque) (new-command true t)))
-        (fact.leaves-bottom (d .integrals .speed) _ (speedGains (d .settings)) (d .settings .q) speed (size.q-lo d met) (within-lo (negℤ (d .settings .q)) (d .settings .q) (d .integrals .speed) (met .integrals .speed)) (subst (λ (k : ℤ). pos 4096 ≤ℤ (k *ℤ d .settings .skp)) (error-is t) e));
+        (fact.leaves-bottom (d .integrals .speed) _ (speedGains (d .settings)) (d .settings .q) speed (size.q-lo d met) (within-lo (negℤ (d .settings .q))
+        (d .settings .q) (d .integrals .speed) (met .integrals .speed)) (subst (λ (k : ℤ). pos 4096 ≤ℤ (k *ℤ d .settings .skp)) (error-is t) e));
   }
 
   -- ════ the pulses
@@ -189,9 +197,13 @@ module _ (d : Drive) (ia ib count : ℤ) (ok : stepped d ia ib count .number ≡
       let z = issued-size in
       record {
         voltage = voltage-is;
-        alpha-size = subst (λ (v : Stator). natAbs (v .alpha) ≤ 8192) (sym voltage-is) (back-alpha-size 4096 4096 (sineAt a) (cosineAt a) (sine-size a) (cosine-size a) i (z .0) (z .1));
-        beta-size = subst (λ (v : Stator). natAbs (v .beta) ≤ 8192) (sym voltage-is) (back-beta-size 4096 4096 (sineAt a) (cosineAt a) (sine-size a) (cosine-size a) i (z .0) (z .1));
-        in-period = subst (AllInPeriod (d .settings .t)) (sym pulses-are) (compares-within (d .settings .t) (volts .alpha) (volts .beta) (size.period d met .up));
+        alpha-size = subst (λ (v : Stator). natAbs (v .alpha) ≤ 8192)
+            (sym voltage-is) (back-alpha-size 4096 4096 (sineAt a) (cosineAt a) (sine-size a) (cosine-size a) i (z .0) (z .1));
+        beta-size =
+            subst (λ (v : Stator). natAbs (v .beta) ≤ 8192) (sym voltage-is)
+            (back-beta-size 4096 4096 (sineAt a) (cosineAt a) (sine-size a) (cosine-size a) i (z .0) (z .1));
+        in-period =
+            subst (AllInPeriod (d .settings .t)) (sym pulses-are) (compares-within (d .settings .t) (volts .alpha) (volts .beta) (size.period d met .up));
         near = λ e.
             subst (AsAsked (d .settings .t) (volts .alpha) (volts .beta)) (sym pulses-are)
             (on-times (d .settings .t) (volts .alpha) (volts .beta) (ap (λ p. p .clipped) (sym pulses-are) ∙ e));
@@ -217,7 +229,8 @@ unfolding refused
 in-any-step d h ia ib count =
     let t = d .settings .t in
     let closed : InPeriod t t = record { lo = size.period d h .up; hi = ≤ℤ-refl t } in
-    by-outcome d ia ib count (λ s. AllInPeriod t (s .pulses)) (λ b. absurd (true≢false (sym b ∙ not-broken d .1 h))) (λ n o e. (closed, closed, closed)) (λ n o. (closed, closed, closed))
+    by-outcome d ia ib count (λ s. AllInPeriod t (s .pulses))
+    (λ b. absurd (true≢false (sym b ∙ not-broken d .1 h))) (λ n o e. (closed, closed, closed)) (λ n o. (closed, closed, closed))
     (λ ok. subst (λ s. AllInPeriod t (s .pulses)) (step-by-the-rules d ia ib count ok) (step-pulses d ia ib count ok .in-period))
 
 pub compares-of-any-step : ComparesOfAnyStep

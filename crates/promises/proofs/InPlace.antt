@@ -21,8 +21,10 @@ module _ {M : Type 1} (𝓤 : URA M) where
   settled : {T : Ended} {c : Clauses 𝓤 T} {B : Type 0} {outcome : (κs : Times T) → Answer T κs → AtExit T κs → B}
       {definition : (κs : Times T) → Given T κs → B}
       → ((κs : Times T) (a : Given T κs) (g : c κs a .ghost) → ent 𝓤 (emp 𝓤) (c κs a .requires g))
-      → ((κs : Times T) (a : Given T κs) (g : c κs a .ghost) (u : Answer T κs) (x : AtExit T κs) → ent 𝓤 (c κs a .ensures g u x) (fact 𝓤 (outcome κs u x ≡ definition κs a)))
-      → ((κs : Times T) (a : Given T κs) (g : c κs a .ghost) (u : Answer T κs) (x : AtExit T κs) → ent 𝓤 (fact 𝓤 (outcome κs u x ≡ definition κs a)) (c κs a .ensures g u x))
+      → ((κs : Times T) (a : Given T κs) (g : c κs a .ghost) (u : Answer T κs) (x : AtExit T κs)
+      → ent 𝓤 (c κs a .ensures g u x) (fact 𝓤 (outcome κs u x ≡ definition κs a)))
+      → ((κs : Times T) (a : Given T κs) (g : c κs a .ghost) (u : Answer T κs) (x : AtExit T κs)
+      → ent 𝓤 (fact 𝓤 (outcome κs u x ≡ definition κs a)) (c κs a .ensures g u x))
       → SettledInPlace 𝓤 T c outcome definition
   settled p l m = record {
     asks-nothing = p;

@@ -40,7 +40,8 @@ reached-sound d r = subst Sound (r .leads) (all-sound (fresh (r .settings)) (r .
 -- ════ settings
 -- what a tick and a step between two ticks both keep, rules 1 and 2 keep
 pub turned-keeps : {A : Type 0} (f : Drive → A) (d : Drive) (count : ℤ)
-    → f (commanded d (measured (counted (d .shaft) count) (d .settings .kn))) ≡ f d → f (withShaft d (counted (d .shaft) count)) ≡ f d → f (rules1And2 d count) ≡ f d
+    → f (commanded d (measured (counted (d .shaft) count) (d .settings .kn))) ≡ f d
+    → f (withShaft d (counted (d .shaft) count)) ≡ f d → f (rules1And2 d count) ≡ f d
 unfolding rules1And2
 turned-keeps f d count p q = by (thirtieth (d .shaft))
   where
@@ -54,7 +55,8 @@ turned-settings d count = turned-keeps (λ d. d .settings) d count refl refl
 
 step-settings : (d : Drive) (ia ib count : ℤ) → stepped d ia ib count .drive .settings ≡ d .settings
 unfolding refused withTrip advanced rules3To9 rules6To9 outcome withField
-step-settings d ia ib count = by-outcome d ia ib count (λ s. s .drive .settings ≡ d .settings) (λ b. refl) (λ n o t. refl) (λ n o. refl) (λ ok. turned-settings d count)
+step-settings d ia ib count =
+    by-outcome d ia ib count (λ s. s .drive .settings ≡ d .settings) (λ b. refl) (λ n o t. refl) (λ n o. refl) (λ ok. turned-settings d count)
 
 pub rows-settings : (d : Drive) (samples : List ℤ) (n : ℕ) → ranOf d samples n .drive .settings ≡ d .settings
 unfolding ranOf noRows afterRow rowStepped
@@ -64,9 +66,11 @@ rows-settings d samples (suc n) = step-settings (ranOf d samples n .drive) _ _ _
 call-settings : (d : Drive) (c : Call) → afterCall d c .settings ≡ d .settings
 unfolding afterCall withTarget fresh noRows
 call-settings d (stepping ia ib count) = step-settings d ia ib count
-call-settings d (aiming wanted) = holds (target-climbs d wanted) (λ a. a .drive .settings ≡ d .settings) (λ b. refl, λ b. (λ t. refl, λ t. (λ w. refl, λ w. refl)))
+call-settings d (aiming wanted) =
+    holds (target-climbs d wanted) (λ a. a .drive .settings ≡ d .settings) (λ b. refl, λ b. (λ t. refl, λ t. (λ w. refl, λ w. refl)))
 call-settings d clearing = holds (clear-climbs d) (λ a. a .drive .settings ≡ d .settings) (λ b. refl, λ b. (λ t. refl, λ t. refl))
-call-settings d (running samples out) = holds (run-climbs d samples out) (λ r. r .0 .drive .settings ≡ d .settings) (λ b. refl, λ b. (λ f. refl, λ f. rows-settings d samples (rowsIn samples)))
+call-settings d (running samples out) =
+    holds (run-climbs d samples out) (λ r. r .0 .drive .settings ≡ d .settings) (λ b. refl, λ b. (λ f. refl, λ f. rows-settings d samples (rowsIn samples)))
 
 pub calls-settings : (d : Drive) (cs : List Call) → afterCalls d cs .settings ≡ d .settings
 unfolding afterCalls

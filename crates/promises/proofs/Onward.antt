@@ -41,7 +41,8 @@ ramped-on j (suc k) reference target r =
 
 goes-on : {d e f : Drive} {i j : ℕ} → Onward d e i → Onward e f j → Onward d f (i + j)
 goes-on {d} {i = i} {j = j} p q = record {
-  reference = q .reference ∙ ap₃ (ramped j) (p .reference) (p .target) (ap (λ t. t .r) (p .settings)) ∙ ramped-on i j (d .command .reference) (d .command .target) (d .settings .r);
+  reference = q .reference ∙ ap₃ (ramped j) (p .reference) (p .target) (ap (λ t. t .r) (p .settings))
+      ∙ ramped-on i j (d .command .reference) (d .command .target) (d .settings .r);
   target = q .target ∙ p .target;
   settings = q .settings ∙ p .settings;
 }
@@ -69,11 +70,13 @@ module _ (d : Drive) (ia ib count : ℤ) where
     turned-on p = record { reference = p .reference; target = p .target; settings = p .settings }
 
     -- a step after which the drive is not tripped was taken
-    step-onward : d .tripped ≡ false → stepped d ia ib count .drive .tripped ≡ false → Onward d (stepped d ia ib count .drive) (one (isTick d (stepped d ia ib count)))
+    step-onward : d .tripped ≡ false → stepped d ia ib count .drive .tripped ≡ false
+        → Onward d (stepped d ia ib count .drive) (one (isTick d (stepped d ia ib count)))
     unfolding refused withTrip advanced rules3To9 rules6To9 outcome isAccepted
     step-onward t =
         by-outcome d ia ib count (λ s. s .drive .tripped ≡ false → Onward d (s .drive) (one (isTick d s)))
-        (λ b u. absurd (true≢false (sym b ∙ not-broken d .1 h))) (λ n o e u. absurd (true≢false (sym e ∙ t))) (λ n o u. absurd (true≢false u)) (λ ok u. turned-on turned-onward)
+        (λ b u. absurd (true≢false (sym b ∙ not-broken d .1 h)))
+        (λ n o e u. absurd (true≢false (sym e ∙ t))) (λ n o u. absurd (true≢false u)) (λ ok u. turned-on turned-onward)
 
 -- a tripped drive stays tripped through a step
 stays-tripped : (d : Drive) (ia ib count : ℤ) → Sound d → stepped d ia ib count .drive .tripped ≡ false → d .tripped ≡ false

@@ -9,5 +9,6 @@ use Rattle.modulation.specs.Modulation.{entriesOf, bit, sectorNumber, sectorAt,
 use Rattle.promises.specs.Starred.{cases, AllHold, StarredHold}
 
 pub starred : StarredHold
-unfolding cases AllHold down modulo held sumOf outOf nextOf regulated clarke fluxNext angleNext entriesOf bit sectorNumber sectorAt sectorOf timeOf clippedTimes timesOf compareAt placed modulated
+unfolding cases AllHold down modulo held sumOf outOf nextOf regulated clarke fluxNext angleNext
+    entriesOf bit sectorNumber sectorAt sectorOf timeOf clippedTimes timesOf compareAt placed modulated
 starred = (refl, (refl, (refl, (refl, (refl, (refl, (refl, (refl, (refl, (refl, (refl, (refl, tt))))))))))))

@@ -25,7 +25,8 @@ use Rattle.drive.proofs.Kept.{fresh-sound}
 use Rattle.rows.specs.Rows.{rowStepped, isAccepted, one, noRows, afterRow, ranOf, rowsIn, rowsFit, runOf}
 use Rattle.rows.proofs.Runs.{rows-sound}
 use Rattle.promises.specs.Demand1.{Run, allRun}
-use Rattle.promises.specs.Histories.{Call, stepping, aiming, clearing, running, afterCall, afterCalls, rowAt, countOf, Quiet, isTick, ticksIn, ticksOf, stepsIn, stepsOf, clears, NoClear, since}
+use Rattle.promises.specs.Histories.{Call, stepping, aiming, clearing, running, afterCall, afterCalls, rowAt, countOf}
+use Rattle.promises.specs.Histories.{Quiet, isTick, ticksIn, ticksOf, stepsIn, stepsOf, clears, NoClear, since}
 use Rattle.promises.specs.Ramp.{EveryThirtieth, ThirtiethsOfAny, TicksCounted, QuietNoClear}
 use Rattle.promises.proofs.Demand1.{by-outcome, target-climbs, clear-climbs, clear-table, run-climbs}
 use Rattle.promises.proofs.Demand2.{stays-unbroken}
@@ -61,10 +62,12 @@ module _ (d : Drive) (ia ib count : ℤ) (h : Sound d) where
   unfolding refused withTrip advanced rules3To9 rules6To9 outcome withField isAccepted
   step-window =
       let still : Window d d 0 0 = omega arith in
-      by-outcome d ia ib count (λ s. Window d (s .drive) (one (isTick d s)) (one (isAccepted s))) (λ b. still) (λ n o t. rw o still) (λ n o. rw o still) (λ ok. turned-window)
+      by-outcome d ia ib count (λ s. Window d (s .drive) (one (isTick d s)) (one (isAccepted s)))
+      (λ b. still) (λ n o t. rw o still) (λ n o. rw o still) (λ ok. turned-window)
 
 -- ════ the rows of a run
-row-window : (d : Drive) (samples : List ℤ) (i : ℕ) → Sound d → Window d (rowStepped d samples i .drive) (one (isTick d (rowStepped d samples i))) (one (isAccepted (rowStepped d samples i)))
+row-window : (d : Drive) (samples : List ℤ) (i : ℕ) → Sound d
+    → Window d (rowStepped d samples i .drive) (one (isTick d (rowStepped d samples i))) (one (isAccepted (rowStepped d samples i)))
 unfolding rowStepped
 row-window d samples i h = step-window d _ _ _ h
 
@@ -88,18 +91,26 @@ module _ (d : Drive) (h : Sound d) where
       let ticks : ℕ = countOf (λ i. isTick (ranOf d samples i .drive) (rowAt d samples i)) (rowsIn samples) in
       let Q : Bool → Run → Type 0 = λ f r. Window d (r .0 .drive) (cond f ticks 0) (r .0 .accepted) in
       let fit = rowsFit (length samples) (length out) in
-      holds (run-climbs d samples out) (Q fit)
-      (λ b. intact b, λ b. (λ f. subst (λ f. Q f (noRows d (pos 9), out)) (sym f) still, λ f. subst (λ f. Q f (allRun d samples out)) (sym f) (rows-window d samples (rowsIn samples) h)))
+      holds (run-climbs d samples out) (Q fit) (
+        λ b. intact b,
+        λ b. (
+          λ f. subst (λ f. Q f (noRows d (pos 9), out)) (sym f) still,
+          λ f.
+              subst (λ f. Q f (allRun d samples out)) (sym f) (rows-window d samples (rowsIn samples) h),
+        ),
+      )
 
   -- a clear that is not accepted leaves the drive
   uncleared : clears d clearing ≡ false → cleared d .drive ≡ d
   unfolding clears
-  uncleared = holds (clear-climbs d) (λ a. within (pos 0) (pos 0) (a .number) ≡ false → a .drive ≡ d) (λ b e. refl, λ b. (λ t e. refl, λ t e. absurd (true≢false e)))
+  uncleared =
+      holds (clear-climbs d) (λ a. within (pos 0) (pos 0) (a .number) ≡ false → a .drive ≡ d) (λ b e. refl, λ b. (λ t e. refl, λ t e. absurd (true≢false e)))
 
   -- one that is accepted makes a fresh drive, whose window is empty
   emptied : clears d clearing ≡ true → inWindow (cleared d .drive) ≡ 0
   unfolding clears fresh
-  emptied = holds (clear-climbs d) (λ a. within (pos 0) (pos 0) (a .number) ≡ true → inWindow (a .drive) ≡ 0) (λ b e. absurd (false≢true e), λ b. (λ t e. absurd (false≢true e), λ t e. refl))
+  emptied = holds (clear-climbs d) (λ a. within (pos 0) (pos 0) (a .number) ≡ true
+      → inWindow (a .drive) ≡ 0) (λ b e. absurd (false≢true e), λ b. (λ t e. absurd (false≢true e), λ t e. refl))
 
   call-window : (c : Call) → clears d c ≡ false → Window d (afterCall d c) (ticksIn d c) (stepsIn d c)
   unfolding afterCall ticksIn stepsIn withTarget
@@ -129,8 +140,10 @@ since-window d [] ticks steps h e = e
 since-window d (c ∷ cs) ticks steps h e = by (clears d c) refl (λ m n k. since-window (afterCall d c) cs m n (after-sound d c h) k)
   where
     by : (b : Bool) → clears d c ≡ b
-        → ((m n : ℕ) → inWindow (afterCall d c) + 30 * m ≡ n → inWindow (afterCalls (afterCall d c) cs) + 30 * since ticksIn m (afterCall d c) cs ≡ since stepsIn n (afterCall d c) cs)
-        → inWindow (afterCalls (afterCall d c) cs) + 30 * since ticksIn (cond b 0 (ticks + ticksIn d c)) (afterCall d c) cs ≡ since stepsIn (cond b 0 (steps + stepsIn d c)) (afterCall d c) cs
+        → ((m n : ℕ) → inWindow (afterCall d c) + 30 * m ≡ n
+        → inWindow (afterCalls (afterCall d c) cs) + 30 * since ticksIn m (afterCall d c) cs ≡ since stepsIn n (afterCall d c) cs)
+        → inWindow (afterCalls (afterCall d c) cs) + 30 * since ticksIn
+        (cond b 0 (ticks + ticksIn d c)) (afterCall d c) cs ≡ since stepsIn (cond b 0 (steps + stepsIn d c)) (afterCall d c) cs
     by true t next = next 0 0 (omega (arith, cleared-window d h c t))
     by false t next = next (ticks + ticksIn d c) (steps + stepsIn d c) (omega (arith, e, call-window d h c t))
 
@@ -154,7 +167,8 @@ module _ (e : Drive) (s : Stepped) (h : Sound e) (a : isAccepted s ≡ true) (n 
   tick-at : (isTick e s ≡ true) ↔ (suc n % 30 ≡ 0)
   tick-at = rw a (
     λ t. omega (arith, w, ap natAbs (window.thirtieth-at (e .shaft) .0 t)),
-    λ m. window.thirtieth-at (e .shaft) .1 (nine-and-twenty (e .shaft .steps) (within-lo (pos 0) (pos 29) (e .shaft .steps) (h .shaft .steps)) (omega (arith, w, m, few e h))),
+    λ m. window.thirtieth-at (e .shaft) .1
+        (nine-and-twenty (e .shaft .steps) (within-lo (pos 0) (pos 29) (e .shaft .steps) (h .shaft .steps)) (omega (arith, w, m, few e h))),
   )
 
 pub thirtieths-of-any : ThirtiethsOfAny

@@ -26,7 +26,8 @@ module _ (y p k d v : ℤ) where
   rising-lo : pos 4096 *ℤ v ≡ y *ℤ k → pos 0 ≤ℤ ((y -ℤ pos 4096 *ℤ p) *ℤ k) → pos 0 ≤ℤ (k *ℤ d) → pos 0 ≤ℤ sum p k d v
   rising-lo = rw (is-diff y, is-diff p, is-diff k, is-diff d, is-diff v) (simp diffs (omega arith))
 
-  rising-hi : pos 4096 *ℤ v ≡ y *ℤ k → k ≤ℤ pos 4096 → pos 0 ≤ℤ ((pos 4096 *ℤ p +ℤ pos 4095 -ℤ y) *ℤ k) → pos 0 ≤ℤ ((pos 4096 -ℤ k) *ℤ d) → sum p k d v <ℤ (pos 4096 *ℤ d +ℤ pos 4096)
+  rising-hi : pos 4096 *ℤ v ≡ y *ℤ k → k ≤ℤ pos 4096 → pos 0 ≤ℤ ((pos 4096 *ℤ p +ℤ pos 4095 -ℤ y) *ℤ k)
+      → pos 0 ≤ℤ ((pos 4096 -ℤ k) *ℤ d) → sum p k d v <ℤ (pos 4096 *ℤ d +ℤ pos 4096)
   rising-hi = rw (is-diff y, is-diff p, is-diff k, is-diff d, is-diff v) (simp diffs (omega arith))
 
   falling-lo : pos 4096 *ℤ v ≡ y *ℤ k → pos 0 ≤ℤ ((y -ℤ pos 4096 *ℤ p) *ℤ k) → pos 0 ≤ℤ ((pos 4096 -ℤ k) *ℤ negℤ d) → (pos 4096 *ℤ d) ≤ℤ sum p k d v
@@ -70,8 +71,29 @@ module _ (x e kp k ki o : ℤ) (k0 : pos 0 ≤ℤ k) (k1 : k ≤ℤ pos 4096) (t
   between : Between x (x +ℤ change) o
   unfolding change
   between = record {
-    rising = λ h. omega (arith, order, parts-+ x change, parts-- o x, down-low-parts t 4096 (lit< tt), down-high-parts t 4096 (lit< tt), parts-* (pos 4096) d, parts-+ (pos 4096 *ℤ d) (pos 4096), rising-lo y p k d (e *ℤ ki) (tied-e e ki kp k tied) rest-up (*-nonneg k0 (gap-up _ _ h)), rising-hi y p k d (e *ℤ ki) (tied-e e ki kp k tied) k1 rest-down (*-nonneg (gap-up _ _ k1) (gap-up _ _ h)));
-    falling = λ h. omega (arith, order, parts-+ x change, parts-- o x, down-low-parts t 4096 (lit< tt), down-high-parts t 4096 (lit< tt), parts-* (pos 4096) d, falling-lo y p k d (e *ℤ ki) (tied-e e ki kp k tied) rest-up (*-nonneg (gap-up _ _ k1) (gap-down _ _ h)), falling-hi y p k d (e *ℤ ki) (tied-e e ki kp k tied) k1 rest-down (*-nonneg k0 (gap-down _ _ h)));
+    rising = λ h. omega (
+      arith,
+      order,
+      parts-+ x change,
+      parts-- o x,
+      down-low-parts t 4096 (lit< tt),
+      down-high-parts t 4096 (lit< tt),
+      parts-* (pos 4096) d,
+      parts-+ (pos 4096 *ℤ d) (pos 4096),
+      rising-lo y p k d (e *ℤ ki) (tied-e e ki kp k tied) rest-up (*-nonneg k0 (gap-up _ _ h)),
+      rising-hi y p k d (e *ℤ ki) (tied-e e ki kp k tied) k1 rest-down (*-nonneg (gap-up _ _ k1) (gap-up _ _ h)),
+    );
+    falling = λ h. omega (
+      arith,
+      order,
+      parts-+ x change,
+      parts-- o x,
+      down-low-parts t 4096 (lit< tt),
+      down-high-parts t 4096 (lit< tt),
+      parts-* (pos 4096) d,
+      falling-lo y p k d (e *ℤ ki) (tied-e e ki kp k tied) rest-up (*-nonneg (gap-up _ _ k1) (gap-down _ _ h)),
+      falling-hi y p k d (e *ℤ ki) (tied-e e ki kp k tied) k1 rest-down (*-nonneg k0 (gap-down _ _ h)),
+    );
   }
 
 -- ════ the fact

@@ -41,6 +41,7 @@ module _ (d : Drive) (samples out : List ℤ) where
   unfolding runOf outputAfter
   run-9 b f = (simp (b, f), simp (b, f))
 
-  pub run-0 : broken d ≡ false → rowsFit (length samples) (length out) ≡ true → (runOf d samples out ≡ ranOf d samples (rowsIn samples)) × (outputAfter d samples out ≡ writtenOf d samples (rowsIn samples) ++ drop (4 * rowsIn samples) out)
+  pub run-0 : broken d ≡ false → rowsFit (length samples) (length out) ≡ true → (runOf d samples out ≡ ranOf d samples (rowsIn samples))
+      × (outputAfter d samples out ≡ writtenOf d samples (rowsIn samples) ++ drop (4 * rowsIn samples) out)
   unfolding runOf outputAfter
   run-0 b f = (simp (b, f), simp (b, f))

@@ -92,7 +92,8 @@ module _ (s t : List ℤ) (n : ℕ) (h : length s ≡ 3 * n) where
     written-in-pieces zero = rw (add-zero n) (written-early n (omega arith) ∙ sym (append-nil (writtenOf d s n)))
     written-in-pieces (suc m) =
         let q = ranOf (ranOf d s n .drive) t m in
-        rw (add-suc n m, written-in-pieces m, ran-in-pieces m, late (q .drive) m) (append-assoc (writtenOf d s n) (writtenOf (ranOf d s n .drive) t m) (four (rowStepped (q .drive) t m)))
+        rw (add-suc n m, written-in-pieces m, ran-in-pieces m, late (q .drive) m)
+        (append-assoc (writtenOf d s n) (writtenOf (ranOf d s n .drive) t m) (four (rowStepped (q .drive) t m)))
 
 -- ════ the run
 -- as many rows as are in both

@@ -16,7 +16,8 @@ use Rattle.fixed.proofs.HeldLaws.{held-cases}
 use Rattle.shaft.specs.Shaft.{rampedTo, ramped}
 
 -- the three ways of a move: R down, R up, onto the target
-pub ramp-cases : (Q : ℤ → Type 0) (reference target r : ℤ) → (target <ℤ (reference -ℤ r) → Q (reference -ℤ r)) → ((reference +ℤ r) <ℤ target → Q (reference +ℤ r)) → ((reference -ℤ r) ≤ℤ target → target ≤ℤ (reference +ℤ r) → Q target) → Q (rampedTo reference target r)
+pub ramp-cases : (Q : ℤ → Type 0) (reference target r : ℤ) → (target <ℤ (reference -ℤ r) → Q (reference -ℤ r))
+    → ((reference +ℤ r) <ℤ target → Q (reference +ℤ r)) → ((reference -ℤ r) ≤ℤ target → target ≤ℤ (reference +ℤ r) → Q target) → Q (rampedTo reference target r)
 unfolding rampedTo
 ramp-cases Q reference target r f g h = held-cases Q target (reference -ℤ r) (reference +ℤ r) f (λ a b. g b) h
 
@@ -38,7 +39,8 @@ below x y h = omega (arith, abs-parts (x -ℤ y), parts-- x y, no-plus (x -ℤ y
 
 -- where the move is onto the target, the gap was no more than R
 near : (x y : ℤ) (r : ℕ) → (y -ℤ pos r) ≤ℤ x → x ≤ℤ (y +ℤ pos r) → natAbs (x -ℤ y) ≤ r
-near x y r h k = ⊎-elim (λ a. omega (arith, order, below x y (<-≤ a), parts-- y (pos r))) (λ a. omega (arith, order, above x y a, parts-+ y (pos r))) (<-or-≤ x y)
+near x y r h k =
+    ⊎-elim (λ a. omega (arith, order, below x y (<-≤ a), parts-- y (pos r))) (λ a. omega (arith, order, above x y a, parts-+ y (pos r))) (<-or-≤ x y)
 
 pub gap-next : (reference target : ℤ) (r : ℕ) → natAbs (target -ℤ rampedTo reference target (pos r)) ≡ natAbs (target -ℤ reference) - r
 gap-next reference target r =
@@ -55,7 +57,8 @@ gap-after zero reference target r = omega arith
 gap-after (suc k) reference target r = omega (arith, gap-next (ramped k reference target (pos r)) target r, gap-after k reference target r)
 
 no-gap : (n target : ℤ) → (n ≡ target) ↔ (natAbs (target -ℤ n) ≡ 0)
-no-gap n target = (λ e. omega (arith, order, e, below target n (omega (arith, order, e))), λ e. omega (arith, order, e, abs-parts (target -ℤ n), parts-- target n))
+no-gap n target =
+    (λ e. omega (arith, order, e, below target n (omega (arith, order, e))), λ e. omega (arith, order, e, abs-parts (target -ℤ n), parts-- target n))
 
 -- after gap/R moves, rounded up, and not sooner
 pub reached : (k : ℕ) (reference target : ℤ) (r : ℕ) → (ramped k reference target (pos r) ≡ target) ↔ (natAbs (target -ℤ reference) ≤ k * r)

@@ -59,7 +59,8 @@ pub steps-lo : (s : Shaft) (count : ℤ) → pos 0 ≤ℤ s .steps → pos 0 ≤
 unfolding counted
 steps-lo s count h = omega (arith, order, parts-+ (s .steps) (pos 1))
 
-pub sum-next : (s : Shaft) (count : ℤ) → pos 0 ≤ℤ s .steps → natAbs (s .sum) ≤ 32768 * natAbs (s .steps) → natAbs (counted s count .sum) ≤ 32768 * natAbs (counted s count .steps)
+pub sum-next : (s : Shaft) (count : ℤ) → pos 0 ≤ℤ s .steps → natAbs (s .sum) ≤ 32768 * natAbs (s .steps)
+    → natAbs (counted s count .sum) ≤ 32768 * natAbs (counted s count .steps)
 unfolding counted
 sum-next s count h k =
     omega (arith, k, up-one (s .steps) h, abs-+ (s .sum) (moved s count), moved-size s count)

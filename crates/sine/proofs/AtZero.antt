@@ -4,7 +4,8 @@ use mathlib.Core.Path.{_≡_, refl, _∙_}
 use lib.Dec.{lit<}
 use lib.IntN.{pos}
 use Rattle.fixed.specs.Fixed.{down}
-use Rattle.sine.specs.Sine.{rootFrom, root, halved, cos2, cos1, sin1, turn, turnedBy, rising, half, sineEntry, indexOf, sineIn, cosineIn, sineAt, cosineAt}
+use Rattle.sine.specs.Sine.{rootFrom, root, halved, cos2, cos1, sin1, turn, turnedBy}
+use Rattle.sine.specs.Sine.{rising, half, sineEntry, indexOf, sineIn, cosineIn, sineAt, cosineAt}
 use Rattle.sine.proofs.Rule.{entry-at}
 
 entry-0 : sineEntry 0 ≡ pos 0

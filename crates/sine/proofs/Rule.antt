@@ -12,7 +12,8 @@ use lib.IntN.{ℤ, pos, negsuc, natAbs}
 use lib.ListN.{getD}
 use Rattle.fixed.specs.Fixed.{down}
 use Rattle.fixed.proofs.Parts.{order}
-use Rattle.sine.specs.Sine.{sineEntry, half, rising, turnedBy, turn, cos1, cos2, sin1, halved, root, rootFrom, entriesFrom, sineTable, Angle, indexOf, sineIn, cosineIn, sineAt, cosineAt}
+use Rattle.sine.specs.Sine.{sineEntry, half, rising, turnedBy, turn, cos1, cos2, sin1, halved}
+use Rattle.sine.specs.Sine.{root, rootFrom, entriesFrom, sineTable, Angle, indexOf, sineIn, cosineIn, sineAt, cosineAt}
 
 and-left : (a b : Bool) → T (a && b) → T a
 and-left true b t = tt

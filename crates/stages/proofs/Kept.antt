@@ -26,7 +26,9 @@ use Rattle.drive_record.specs.declared.Drive.{Drive}
 use Rattle.settings.specs.Settings.{accepted}
 use Rattle.fixed.specs.Fixed.{inside}
 use Rattle.drive_record.specs.Record.{targetEnd, broken}
-use Rattle.stages.specs.Step.{speedGains, currentGains, speedRegulated, currentRegulated, rampedBy, withTorque, withSpeed, withShaft, withCommand, commanded, rules1And2, currents, fieldAfter, dRegulated, qRegulated, voltageOf, voltageFor, withField, outcome, rules6To9, rules3To9, advanced, sampleOk, Currents, SineCosineSized}
+use Rattle.stages.specs.Step.{speedGains, currentGains, speedRegulated, currentRegulated, rampedBy, withTorque, withSpeed, withShaft, withCommand}
+use Rattle.stages.specs.Step.{commanded, rules1And2, currents, fieldAfter, dRegulated, qRegulated, voltageOf, voltageFor}
+use Rattle.stages.specs.Step.{withField, outcome, rules6To9, rules3To9, advanced, sampleOk, Currents, SineCosineSized}
 use Rattle.fixed.specs.Fixed.{within}
 use Rattle.fixed.proofs.Ranges.{Inside, in-lo, in-hi, in-up, inside-size, zero-inside}
 use Rattle.settings.specs.Ranges as range
@@ -54,7 +56,8 @@ current-lawful s i = lawful (currentGains s) (i .current)
 -- ════ rules 1 and 2
 ramped-inside : (d : Drive) (n : ℤ) → Sound d → Inside (pos targetEnd) (rampedBy d n .reference)
 unfolding rampedBy
-ramped-inside d n h = ramped-in targetEnd (d .command .reference) (d .command .target) (d .settings .r) (in-up range.r (d .settings .r) (h .settings .r)) (h .command .reference) (h .command .target)
+ramped-inside d n h = ramped-in targetEnd (d .command .reference)
+    (d .command .target) (d .settings .r) (in-up range.r (d .settings .r) (h .settings .r)) (h .command .reference) (h .command .target)
 
 pub ramped-size : (d : Drive) (n : ℤ) → Sound d → natAbs (rampedBy d n .reference) ≤ targetEnd
 ramped-size d n h = within-abs targetEnd (rampedBy d n .reference) (ramped-inside d n h)
@@ -94,7 +97,8 @@ rules-1-and-2-sound d count h c =
     (λ e. with-shaft-sound d _ h (counted-in (d .shaft) count (h .shaft) c e))
 
 -- ════ rules 3 to 5
-pub currents-size : (ia ib sin cos : ℤ) → Currents ia ib → SineCosineSized sin cos → (natAbs (currents ia ib sin cos .d) ≤ rotorEnd) × (natAbs (currents ia ib sin cos .q) ≤ rotorEnd)
+pub currents-size : (ia ib sin cos : ℤ) → Currents ia ib → SineCosineSized sin cos
+    → (natAbs (currents ia ib sin cos .d) ≤ rotorEnd) × (natAbs (currents ia ib sin cos .q) ≤ rotorEnd)
 unfolding currents
 currents-size ia ib sin cos c t = rotor-size ia ib sin cos (c .ia-size) (c .ib-size) (c .both-size) (t .sin-size) (t .cos-size)
 
@@ -104,7 +108,8 @@ module _ (d : Drive) (i : Rotor) (h : Sound d) (id : natAbs (i .d) ≤ rotorEnd)
   unfolding fieldAfter
   field-in =
       let kr = d .settings .kr in
-      followed-in kr _ _ (d .field) (i .d) _ _ (in-up range.kr kr (h .settings .kr)) (in-hi range.kr kr (h .settings .kr)) (h .field) (le-trans id (leb→le _ _ tt))
+      followed-in kr _ _ (d .field) (i .d) _ _ (in-up range.kr kr (h .settings .kr))
+      (in-hi range.kr kr (h .settings .kr)) (h .field) (le-trans id (leb→le _ _ tt))
 
   pub field-sound : Sound (withField d (fieldAfter d i) (voltageFor d i .integrals))
   unfolding withField voltageFor voltageOf dRegulated qRegulated currentRegulated
@@ -128,7 +133,8 @@ unfolding voltageFor voltageOf dRegulated qRegulated currentRegulated
 asked-size d i h =
     let s = d .settings in
     let law = current-lawful s (h .settings) in
-    let out : (x e : ℤ) → natAbs (regulated x e (currentGains s) (s .v) .out) ≤ 4096 = λ x e. inside-size (s .v) (regulated x e (currentGains s) (s .v) .out) 4096 (size.v-size d h) (out-inside x e (currentGains s) (s .v) law (size.v-lo d h)) in
+    let out : (x e : ℤ) → natAbs (regulated x e (currentGains s) (s .v) .out) ≤ 4096 = λ x e.
+    inside-size (s .v) (regulated x e (currentGains s) (s .v) .out) 4096 (size.v-size d h) (out-inside x e (currentGains s) (s .v) law (size.v-lo d h)) in
     (out (d .integrals .d) (d .command .flux -ℤ i .d), out (d .integrals .q) (d .command .torque -ℤ i .q))
 
 pub sine-cosine-sized : (a : ℤ) → SineCosineSized (sineAt a) (cosineAt a)
@@ -142,4 +148,5 @@ pub advanced-sound : (d : Drive) (ia ib count : ℤ) → Sound d → sampleOk ia
 unfolding advanced
 advanced-sound d ia ib count h e =
     let a = d .field .angle in
-    rules-3-to-9-sound (rules1And2 d count) ia ib (sineAt a) (cosineAt a) (rules-1-and-2-sound d count h (size.samples→ ia ib count e .3)) (size.samples ia ib count e) (sine-cosine-sized a)
+    rules-3-to-9-sound (rules1And2 d count) ia ib (sineAt a)
+    (cosineAt a) (rules-1-and-2-sound d count h (size.samples→ ia ib count e .3)) (size.samples ia ib count e) (sine-cosine-sized a)

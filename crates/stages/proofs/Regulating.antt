@@ -21,7 +21,8 @@ error-sized x wanted actual i w a = record { x-size = i; wanted-size = w; actual
 pub error-size : (x wanted actual : ℤ) → ErrorSized x wanted actual → natAbs (wanted -ℤ actual) ≤ errorSize
 error-size x wanted actual h = omega (arith, abs-- wanted actual, h .wanted-size, h .actual-size)
 
-gains-sized : (x wanted actual : ℤ) (g : Gains) (limit : ℤ) → GainsIn (g .kp) (g .kcor) (g .ki) → pos 1 ≤ℤ limit → natAbs limit ≤ widest → ErrorSized x wanted actual → RegulatorSized x (wanted -ℤ actual) g limit
+gains-sized : (x wanted actual : ℤ) (g : Gains) (limit : ℤ) → GainsIn (g .kp) (g .kcor) (g .ki)
+    → pos 1 ≤ℤ limit → natAbs limit ≤ widest → ErrorSized x wanted actual → RegulatorSized x (wanted -ℤ actual) g limit
 gains-sized x wanted actual g limit i lo hi h = record {
   x-size = h .x-size;
   e-size = omega (arith, error-size x wanted actual h);
@@ -37,7 +38,8 @@ unfolding speedGains
 speed-sized s x wanted actual i h =
     gains-sized x wanted actual (speedGains s) (s .q) (i .speed) (in-lo range.q (s .q) (i .q)) (in-size range.q (s .q) (i .q)) h
 
-pub current-sized : (s : Settings) (x wanted actual : ℤ) → SettingsIn s → ErrorSized x wanted actual → RegulatorSized x (wanted -ℤ actual) (currentGains s) (s .v)
+pub current-sized : (s : Settings) (x wanted actual : ℤ) → SettingsIn s
+    → ErrorSized x wanted actual → RegulatorSized x (wanted -ℤ actual) (currentGains s) (s .v)
 unfolding currentGains
 current-sized s x wanted actual i h =
     gains-sized x wanted actual (currentGains s) (s .v) (i .current) (in-lo range.v (s .v) (i .v)) (omega (arith, in-size range.v (s .v) (i .v))) h

@@ -91,7 +91,8 @@ module _ (d : Drive) (h : Sound d) where
   q-integral-size = inside-size (s .v) (d .integrals .q) widest (le-trans v-size (leb→le _ _ tt)) (h .integrals .q)
 
 -- ════ of accepted samples
-pub samples→ : (ia ib count : ℤ) → sampleOk ia ib count ≡ true → Inside (pos sampleEnd) ia × Inside (pos sampleEnd) ib × Inside (pos sampleEnd) (ia +ℤ ib) × Count count
+pub samples→ : (ia ib count : ℤ) → sampleOk ia ib count ≡ true
+    → Inside (pos sampleEnd) ia × Inside (pos sampleEnd) ib × Inside (pos sampleEnd) (ia +ℤ ib) × Count count
 unfolding sampleOk inside
 samples→ ia ib count e = four (inside (pos sampleEnd) ia) (inside (pos sampleEnd) ib) (inside (pos sampleEnd) (ia +ℤ ib)) (isIn counts count) e
 

@@ -20,7 +20,8 @@ use Rattle.writing.specs.Decimal.{written}
 use Rattle.writing.proofs.TextLaws.{put}
 use Rattle.feeding.specs.Feeding.{Part, partOf, Fed, lineDue, isGood}
 use Rattle.feeding.proofs.Parts.{part-length}
-use Rattle.feeding.proofs.Upto.{good-test, Upto, upto-start, upto-good, upto-else, upto-past, upto-stopped, Wrote, wrote-start, wrote-good, wrote-else, wrote-past, wrote-stopped}
+use Rattle.feeding.proofs.Upto.{good-test, Upto, upto-start, upto-good, upto-else, upto-past}
+use Rattle.feeding.proofs.Upto.{upto-stopped, Wrote, wrote-start, wrote-good, wrote-else, wrote-past, wrote-stopped}
 use Rattle.stream.specs.declared.Stream.{Stream}
 use Rattle.stream.specs.declared.Tally.{Tally}
 use Rattle.stream.specs.Program.{isRow, tallyOf, answerText}
@@ -38,7 +39,8 @@ pub record Telling (s : Stream) (chunk : List ℕ) (at : ℕ) (o out : List ℕ)
   pub upto : Upto isRow tallyOf (asFed s) chunk (asFed cur) i
   pub wrote : Wrote isRow tallyOf answerText 48 (asFed s) chunk at o out (asFed cur) place i
 
-pub telling-start : (s : Stream) (chunk : List ℕ) (at : ℕ) (o : List ℕ) → Sound (s .tally .drive) → length (s .row) ≡ 3 → at + 48 * length chunk ≤ length o → Telling s chunk at o o s at 0
+pub telling-start : (s : Stream) (chunk : List ℕ) (at : ℕ) (o : List ℕ)
+    → Sound (s .tally .drive) → length (s .row) ≡ 3 → at + 48 * length chunk ≤ length o → Telling s chunk at o o s at 0
 telling-start s chunk at o h w r =
     record { is-sound = h; wide = w; upto = upto-start isRow tallyOf (asFed s) chunk; wrote = wrote-start isRow tallyOf answerText (asFed s) chunk at o r }
 
@@ -53,7 +55,8 @@ module _ {s : Stream} {chunk : List ℕ} {at : ℕ} {o out : List ℕ} {cur : St
   is-good = good-test isRow (asFed cur .reading) (drop i chunk) e (row-test ns (l .count))
 
   -- they end a row, which is told
-  pub telling-row : {t : Tally} {start : Line} {next : List ℕ} {end : ℕ} → ended && (not (l .bad) && eqb (l .count) 3) ≡ true → t ≡ tallyOf (cur .tally) ns → start ≡ lineStart →
+  pub telling-row : {t : Tally} {start : Line} {next : List ℕ} {end : ℕ}
+      → ended && (not (l .bad) && eqb (l .count) 3) ≡ true → t ≡ tallyOf (cur .tally) ns → start ≡ lineStart →
       end ≡ place + length (answerText (cur .tally) ns) → next ≡ written out place (answerText (cur .tally) ns) → end ≤ place + 48 →
       Telling s chunk at o next (record { tally = t; line = start; row = ns; begun = false; stopped = cur .stopped }) end j
   unfolding tallyOf
@@ -61,7 +64,8 @@ module _ {s : Stream} {chunk : List ℕ} {at : ℕ} {o out : List ℕ} {cur : St
       let b = is-good ∙ y in
       let c = eqb-true (l .count) 3 (and-right (not (l .bad)) _ (and-right ended _ y)) in
       let n : take (l .count) ns ≡ ns = take-all (l .count) ns (omega (arith, part-wide, c)) in
-      let f : lineDue (tallyOf (cur .tally) (take (l .count) ns)) ns ≡ asFed (record { tally = t; line = start; row = ns; begun = false; stopped = cur .stopped }) = rw (n, et, es, g) refl in
+      let f : lineDue (tallyOf (cur .tally) (take (l .count) ns)) ns ≡ asFed
+      (record { tally = t; line = start; row = ns; begun = false; stopped = cur .stopped }) = rw (n, et, es, g) refl in
       record {
         is-sound = rw et (row-sound (cur .tally .drive) ns 0 (u .is-sound));
         wide = part-wide;
@@ -72,7 +76,8 @@ module _ {s : Stream} {chunk : List ℕ} {at : ℕ} {o out : List ℕ} {cur : St
       }
 
   -- they end none, or the line goes on
-  pub telling-else : ended && (not (l .bad) && eqb (l .count) 3) ≡ false → Telling s chunk at o out (record { tally = cur .tally; line = l; row = ns; begun = true; stopped = ended }) place j
+  pub telling-else : ended && (not (l .bad) && eqb (l .count) 3) ≡ false
+      → Telling s chunk at o out (record { tally = cur .tally; line = l; row = ns; begun = true; stopped = ended }) place j
   telling-else y = record {
     is-sound = u .is-sound;
     wide = part-wide;

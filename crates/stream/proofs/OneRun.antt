@@ -73,7 +73,13 @@ held-if false n h = h
 
 held-more : (t : Tally) (row : List ℤ) → Held t → Held (tallyOf t row)
 unfolding tallyOf
-held-more t row h = record { rows = omega arith; accepted = held-if (isAccepted (stepOf t row)) (t .accepted) (h .accepted); clipped = held-if (isClipped (stepOf t row)) (t .clipped) (h .clipped) }
+held-more t row h =
+    record {
+      rows = omega arith;
+      accepted = held-if (isAccepted (stepOf t row))
+          (t .accepted) (h .accepted);
+      clipped = held-if (isClipped (stepOf t row)) (t .clipped) (h .clipped);
+    }
 
 -- no row
 with-none : (t : Tally) → Held t → t ≡ withRun t (noRows (t .drive) (pos 0)) 0
@@ -89,14 +95,16 @@ plus-if : (b : Bool) (n m : ℕ) → plus n (0 + one b + m) ≡ plus (cond b (on
 plus-if true n m = omega arith
 plus-if false n m = omega arith
 
-with-more : (t : Tally) (row : List ℤ) (r : Ran) (m : ℕ) → withRun t (joinedRuns (afterRow (noRows (t .drive) (pos 0)) (stepOf t row)) r) (1 + m) ≡ withRun (tallyOf t row) r m
+with-more : (t : Tally) (row : List ℤ) (r : Ran) (m : ℕ)
+    → withRun t (joinedRuns (afterRow (noRows (t .drive) (pos 0)) (stepOf t row)) r) (1 + m) ≡ withRun (tallyOf t row) r m
 unfolding tallyOf afterRow noRows
 with-more t row r m =
     let a : plus (t .rows) (1 + m) ≡ plus (oneMore (t .rows)) m = omega arith in
     rw (a, plus-if (isAccepted (stepOf t row)) (t .accepted) (r .accepted), plus-if (isClipped (stepOf t row)) (t .clipped) (r .clipped)) refl
 
 one-ran : (t : Tally) (row : List ℤ) →
-    (ranOf (t .drive) row 1 ≡ afterRow (noRows (t .drive) (pos 0)) (stepOf t row)) × (ranOf (t .drive) row 1 .drive ≡ tallyOf t row .drive) × (writtenOf (t .drive) row 1 ≡ four (stepOf t row))
+    (ranOf (t .drive) row 1 ≡ afterRow (noRows (t .drive) (pos 0)) (stepOf t row))
+    × (ranOf (t .drive) row 1 .drive ≡ tallyOf t row .drive) × (writtenOf (t .drive) row 1 ≡ four (stepOf t row))
 unfolding ranOf writtenOf noRows afterRow tallyOf
 one-ran t row = (refl, refl, refl)
 
@@ -106,13 +114,17 @@ fours-more s l = refl
 
 -- ════ all the rows
 module _ (t : Tally) (row : List ℤ) (rows : List (List ℤ)) (l : length row ≡ 3) where
-  ran-more : ranOf (t .drive) (row ++ joined rows) (1 + length rows) ≡ joinedRuns (afterRow (noRows (t .drive) (pos 0)) (stepOf t row)) (ranOf (tallyOf t row .drive) (joined rows) (length rows))
+  ran-more : ranOf (t .drive) (row ++ joined rows) (1 + length rows) ≡ joinedRuns
+      (afterRow (noRows (t .drive) (pos 0)) (stepOf t row)) (ranOf (tallyOf t row .drive) (joined rows) (length rows))
   ran-more =
-      ran-in-pieces row (joined rows) 1 l (t .drive) (length rows) ∙ ap₂ (λ (x : Ran) (y : Drive). joinedRuns x (ranOf y (joined rows) (length rows))) (one-ran t row .0) (one-ran t row .1)
+      ran-in-pieces row (joined rows) 1 l (t .drive) (length rows)
+      ∙ ap₂ (λ (x : Ran) (y : Drive). joinedRuns x (ranOf y (joined rows) (length rows))) (one-ran t row .0) (one-ran t row .1)
 
-  written-more : writtenOf (t .drive) (row ++ joined rows) (1 + length rows) ≡ four (stepOf t row) ++ writtenOf (tallyOf t row .drive) (joined rows) (length rows)
+  written-more : writtenOf (t .drive) (row ++ joined rows) (1 + length rows) ≡ four
+      (stepOf t row) ++ writtenOf (tallyOf t row .drive) (joined rows) (length rows)
   written-more =
-      written-in-pieces row (joined rows) 1 l (t .drive) (length rows) ∙ ap₂ (λ (x : List ℤ) (y : Drive). x ++ writtenOf y (joined rows) (length rows)) (one-ran t row .2) (one-ran t row .1)
+      written-in-pieces row (joined rows) 1 l (t .drive) (length rows)
+      ∙ ap₂ (λ (x : List ℤ) (y : Drive). x ++ writtenOf y (joined rows) (length rows)) (one-ran t row .2) (one-ran t row .1)
 
 first : (n : ℕ) → suc n ≡ 1 + n
 first n = omega arith
@@ -121,7 +133,8 @@ ran-none : (d : Drive) → ranOf d [] 0 ≡ noRows d (pos 0)
 unfolding ranOf
 ran-none d = refl
 
-rows-run : (t : Tally) {rows : List (List ℤ)} → Threes rows → Held t → afterAll tallyOf t rows ≡ withRun t (ranOf (t .drive) (joined rows) (length rows)) (length rows)
+rows-run : (t : Tally) {rows : List (List ℤ)} → Threes rows → Held t
+    → afterAll tallyOf t rows ≡ withRun t (ranOf (t .drive) (joined rows) (length rows)) (length rows)
 unfolding afterAll joined
 rows-run t nil h = rw (ran-none (t .drive)) (with-none t h)
 rows-run t (cons {row} {rows} l k) h =
@@ -134,14 +147,16 @@ written-0 : (d : Drive) → foursText (writtenOf d [] 0) ≡ []
 unfolding writtenOf foursText
 written-0 d = refl
 
-rows-written : (t : Tally) {rows : List (List ℤ)} → Threes rows → answersTo tallyOf answerText t rows ≡ foursText (writtenOf (t .drive) (joined rows) (length rows))
+rows-written : (t : Tally) {rows : List (List ℤ)} → Threes rows
+    → answersTo tallyOf answerText t rows ≡ foursText (writtenOf (t .drive) (joined rows) (length rows))
 unfolding answersTo joined answerText
 rows-written t nil = sym (written-0 (t .drive))
 rows-written t (cons {row} {rows} l k) =
     let n = length rows in
     let w = writtenOf (tallyOf t row .drive) (joined rows) n in
     ap (λ (x : List ℕ). lineText (four (stepOf t row)) ++ x) (rows-written (tallyOf t row) k)
-    ∙ sym (ap (λ (j : ℕ). foursText (writtenOf (t .drive) (row ++ joined rows) j)) (first n) ∙ ap foursText (written-more t row rows l) ∙ fours-more (stepOf t row) w)
+    ∙ sym (ap (λ (j : ℕ). foursText (writtenOf (t .drive) (row ++ joined rows) j)) (first n)
+    ∙ ap foursText (written-more t row rows l) ∙ fours-more (stepOf t row) w)
 
 -- ════ the run
 -- rows that fit are run
@@ -154,7 +169,8 @@ with-first : (d : Drive) (r : Ran) (n : ℕ) → withRun (tallyStart d) r n ≡ 
 with-first d r n = rw (zero-add n, zero-add (r .accepted), zero-add (r .clipped)) refl
 
 -- one run of all the rows, from a drive that is not broken
-pub one-run : (d : Drive) (input : List ℕ) → broken d ≡ false → programText d input ≡ headerText ++ runText d (joined (goodLines isRow input)) (endsBad isRow input)
+pub one-run : (d : Drive) (input : List ℕ) → broken d ≡ false
+    → programText d input ≡ headerText ++ runText d (joined (goodLines isRow input)) (endsBad isRow input)
 unfolding programText
 one-run d input b =
     let rows = goodLines isRow input in
@@ -167,7 +183,8 @@ one-run d input b =
     let o : length out ≡ 4 * n = length-replicate (4 * rowsIn samples) (pos 0) ∙ ap (λ (j : ℕ). 4 * j) e in
     let r = run-0 d samples out b (rows-fit (length samples) (length out) n m o) in
     let w : outputAfter d samples out ≡ writtenOf d samples n =
-    r .1 ∙ ap₂ (λ (j : ℕ) (l : List ℤ). writtenOf d samples j ++ l) e (drop-of-length-le out {i = 4 * rowsIn samples} (omega (arith, e, o))) ∙ append-nil (writtenOf d samples n) in
+    r .1 ∙ ap₂ (λ (j : ℕ) (l : List ℤ). writtenOf d samples j ++ l) e (drop-of-length-le out {i = 4 * rowsIn samples} (omega (arith, e, o)))
+    ∙ append-nil (writtenOf d samples n) in
     let q : runOf d samples out ≡ ranOf d samples n = r .0 ∙ ap (ranOf d samples) e in
     let h = rows-run (tallyStart d) k (record { rows = omega arith; accepted = omega arith; clipped = omega arith }) in
     ap₂ (λ (x : List ℕ) (y : Tally). headerText ++ (x ++ closingText (endsBad isRow input) y)) (rows-written (tallyStart d) k ∙ ap foursText (sym w))
@@ -197,7 +214,8 @@ unfolding linesOf
 lines-few p [] = omega arith
 lines-few p (b ∷ bs) = by (eqb b 10) (lines-few [] bs) (lines-few (p ++ (b ∷ [])) bs)
   where
-    by : (c : Bool) → length (linesOf [] bs) ≤ length bs → length (linesOf (p ++ (b ∷ [])) bs) ≤ length bs → length (cond c (p ∷ linesOf [] bs) (linesOf (p ++ (b ∷ [])) bs)) ≤ length (b ∷ bs)
+    by : (c : Bool) → length (linesOf [] bs) ≤ length bs → length (linesOf (p ++ (b ∷ [])) bs) ≤ length bs
+        → length (cond c (p ∷ linesOf [] bs) (linesOf (p ++ (b ∷ [])) bs)) ≤ length (b ∷ bs)
     by true h k = omega arith
     by false h k = omega arith
 
@@ -205,7 +223,8 @@ lines-few p (b ∷ bs) = by (eqb b 10) (lines-few [] bs) (lines-few (p ++ (b ∷
 pub counts-exact : (d : Drive) (input : List ℕ) → length input < 18446744073709551615 →
     let rows = goodLines isRow input in
     let ran = ranOf d (joined rows) (length rows) in
-    (heldCount (length rows) ≡ length rows) × (oneMore (length rows) ≡ length rows + 1) × (heldCount (ran .accepted) ≡ ran .accepted) × (heldCount (ran .clipped) ≡ ran .clipped)
+    (heldCount (length rows) ≡ length rows) × (oneMore (length rows) ≡ length rows + 1)
+    × (heldCount (ran .accepted) ≡ ran .accepted) × (heldCount (ran .clipped) ≡ ran .clipped)
 counts-exact d input h =
     let rows = goodLines isRow input in
     let f = ran-few d (joined rows) (length rows) in

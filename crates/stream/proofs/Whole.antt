@@ -30,7 +30,8 @@ chunks : (s : Fed Tally) (cs : List (List ℕ)) → chunksText s cs ≡ onward s
 unfolding chunksText joined fedOf textFed
 chunks s [] = refl
 chunks s (c ∷ cs) =
-    rw (text-in-pieces isRow tallyOf answerText s c (joined cs), fed-in-pieces isRow tallyOf s c (joined cs), append-assoc) (ap (λ (t : List ℕ). rowsText s c ++ t) (chunks (rowsFed s c) cs))
+    rw (text-in-pieces isRow tallyOf answerText s c (joined cs), fed-in-pieces isRow tallyOf s c (joined cs), append-assoc)
+    (ap (λ (t : List ℕ). rowsText s c ++ t) (chunks (rowsFed s c) cs))
 
 program-onward : (d : Drive) (input : List ℕ) → headerText ++ onward (streamStart d) input ≡ programText d input
 unfolding programText
@@ -49,4 +50,12 @@ unread d xs ys h =
     let n = rowsFed s xs in
     let e = text-in-pieces isRow tallyOf answerText s xs ys in
     let f = fed-in-pieces isRow tallyOf s xs ys in
-    rw (← program-onward d (xs ++ ys), ← program-onward d xs, e, f, fed-stopped isRow tallyOf n ys h, text-stopped isRow tallyOf answerText n ys h, append-nil) refl
+    rw (
+      ← program-onward d (xs ++ ys),
+      ← program-onward d xs,
+      e,
+      f,
+      fed-stopped isRow tallyOf n ys h,
+      text-stopped isRow tallyOf answerText n ys h,
+      append-nil,
+    ) refl

@@ -15,7 +15,8 @@ use lib.IntN.{ℤ}
 use lib.ListN.{length, getD, take, drop, set, length-append, length-drop}
 use lib.Seq.{drop-cons, set-at, take-at}
 use Rattle.text.specs.Grammar.{wordsIn, both, numbersOf, numberOf, lineOf}
-use Rattle.text.specs.Automaton.{wordStart, wordAfter, wordOk, wordValue, lineStart, takes, lineMore, lineBad, lineEnd, lineOn, numbersEnd, lineNext, numbersNext, Reading, readNext, readAll, readEnd, lineRead}
+use Rattle.text.specs.Automaton.{wordStart, wordAfter, wordOk, wordValue, lineStart, takes, lineMore, lineBad, lineEnd}
+use Rattle.text.specs.Automaton.{lineOn, numbersEnd, lineNext, numbersNext, Reading, readNext, readAll, readEnd, lineRead}
 use Rattle.text.specs.declared.Line.{Line}
 use Rattle.fixed.proofs.Choice.{by-test, by-order}
 use Rattle.text.proofs.Words.{word-good, word-bad, after-more}

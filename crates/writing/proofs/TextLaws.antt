@@ -18,7 +18,8 @@ pub record Put (o : List ℕ) (at : ℕ) (bs out : List ℕ) (p : ℕ) : Type 0 
 pub put : {o : List ℕ} {at : ℕ} {bs out : List ℕ} {p : ℕ} → p ≡ at + length bs → out ≡ written o at bs → Put o at bs out p
 put e f = record { next = e; wrote = f }
 
-pub put-then : {o : List ℕ} {at : ℕ} {xs ys out end : List ℕ} {p q : ℕ} → Put o at xs out p → Put out p ys end q → at + length xs + length ys ≤ length o → Put o at (xs ++ ys) end q
+pub put-then : {o : List ℕ} {at : ℕ} {xs ys out end : List ℕ} {p q : ℕ}
+    → Put o at xs out p → Put out p ys end q → at + length xs + length ys ≤ length o → Put o at (xs ++ ys) end q
 put-then {o} {at} {xs} {ys} a b h =
     record { next = simp length-append (omega arith); wrote = b .wrote ∙ rw (a .wrote, a .next) (written-then o xs ys at h) }
 
@@ -30,7 +31,8 @@ pub record Copied (bs : List ℕ) (o : List ℕ) (at : ℕ) (out : List ℕ) (i 
   pub long : length out ≡ length o
   pub wrote : out ≡ written o at (take i bs)
 
-pub copied-more : {bs o : List ℕ} {at : ℕ} {out : List ℕ} {i : ℕ} → Copied bs o at out i → i < length bs → Copied bs o at (set out (at + i) (getD bs i 0)) (i + 1)
+pub copied-more : {bs o : List ℕ} {at : ℕ} {out : List ℕ} {i : ℕ}
+    → Copied bs o at out i → i < length bs → Copied bs o at (set out (at + i) (getD bs i 0)) (i + 1)
 copied-more {bs} {o} {at} {out} {i} s h =
     let n = length-take-le i bs (s .low) in
     let w = put-then (put {p = at + i} (omega arith) (s .wrote)) (put refl (written-one out (at + i) (getD bs i 0) (omega arith))) (omega arith) in

@@ -53,7 +53,8 @@ pub record Spelt (n k at : ℕ) (o out : List ℕ) (i rest : ℕ) : Type 0 where
   pub long : length out ≡ length o
   pub ends : written out at (lastDigits i rest) ≡ written o at (lastDigits k n)
 
-pub spelt-more : {n k at rest : ℕ} {o out : List ℕ} (i : ℕ) → 0 < i → Spelt n k at o out i rest → Spelt n k at o (set out (at + (i - 1)) (digitOf rest)) (i - 1) (rest / 10)
+pub spelt-more : {n k at rest : ℕ} {o out : List ℕ} (i : ℕ) → 0 < i
+    → Spelt n k at o out i rest → Spelt n k at o (set out (at + (i - 1)) (digitOf rest)) (i - 1) (rest / 10)
 unfolding lastDigits
 spelt-more zero h s = absurd (omega (arith, h))
 spelt-more {at = at} {rest} {out = out} (suc j) h s =

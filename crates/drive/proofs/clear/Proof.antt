@@ -18,7 +18,8 @@ is-sound c = yes (c .before .sound .ensures) (c .if1 .left)
 
 returns-2 : tie.Need-returns-2
 unfolding cleared broken
-returns-2 c = let e = c .before in simp (c .answer2 .ensures, is-sound (e .before .before), not-true (e .before .before .before .before .args .d .tripped) (e .if2 .taken))
+returns-2 c = let e = c .before in
+    simp (c .answer2 .ensures, is-sound (e .before .before), not-true (e .before .before .before .before .args .d .tripped) (e .if2 .taken))
 
 returns-3 : tie.Need-returns-3
 unfolding cleared broken

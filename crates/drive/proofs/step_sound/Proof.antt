@@ -17,7 +17,8 @@ returns c =
     let b = from-bits (s .args .d) _ (s .good .0 .1 .1) in
     simp (c .refused .ensures, b .settings .t, c .before .before .if1 .taken)
 
-sample-is : (c : tie.After-sample-ok) → c .sample-ok .result ≡ sampleOk (c .before .before .args .ia) (c .before .before .args .ib) (c .before .before .args .count)
+sample-is : (c : tie.After-sample-ok)
+    → c .sample-ok .result ≡ sampleOk (c .before .before .args .ia) (c .before .before .args .ib) (c .before .before .args .count)
 sample-is c =
     let f = c .before .before .fits in
     simp (c .sample-ok .ensures, toZ-ofZ (f .ia), toZ-ofZ (f .ib), toZ-ofZ (f .count))
@@ -28,7 +29,13 @@ returns-2 c =
     let k = c .before .before .before .before in
     let s = k .before .before in
     let b = from-bits (s .args .d) _ (s .good .0 .1 .1) in
-    simp (c .refused2 .ensures, c .before .before .with-trip .ensures, b .settings .t, k .before .if1 .left, no (sample-is k) (c .before .before .before .if2 .taken))
+    simp (
+      c .refused2 .ensures,
+      c .before .before .with-trip .ensures,
+      b .settings .t,
+      k .before .if1 .left,
+      no (sample-is k) (c .before .before .before .if2 .taken),
+    )
 
 taken : (c : tie.Else2) → sampleOk (c .before .before .before .args .ia) (c .before .before .before .args .ib) (c .before .before .before .args .count) ≡ true
 taken c = yes (sample-is (c .before)) (c .if2 .left)

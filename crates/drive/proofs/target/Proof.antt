@@ -40,7 +40,15 @@ returns-4 c =
     let a = c .before in
     let k = a .before .before in
     let e = k .before in
-    simp (c .answer4 .ensures, a .with-target .ensures, toZ-ofZ (e .before .before .before .fits .wanted), is-sound (e .before), e .if2 .left, yes (wanted-is k) (a .before .if3 .left))
+    simp (
+      c .answer4 .ensures,
+      a .with-target .ensures,
+      toZ-ofZ (e .before .before .before .fits .wanted),
+      is-sound (e .before),
+      e .if2 .left,
+      yes (wanted-is k) (a .before .if3 .left),
+    )
 
 pub target-spec : {M : Type 1} → statement M
-target-spec = tie.close (tie.spec (λ c κs. tt) (λ c κs. tt) returns (λ c κs. tt) returns-2 (λ c κs. tt) (λ c κs. tt) returns-3 (λ c κs. tt) (λ c κs. tt) returns-4)
+target-spec =
+    tie.close (tie.spec (λ c κs. tt) (λ c κs. tt) returns (λ c κs. tt) returns-2 (λ c κs. tt) (λ c κs. tt) returns-3 (λ c κs. tt) (λ c κs. tt) returns-4)

@@ -20,7 +20,18 @@ returns c =
     let c1 = c2 .before .before in
     let s = c1 .before .before in
     let b = told-command (s .args .c) _ (s .good .1 .0 .1 .1) in
-    simp (c1 .within .ensures, c2 .within2 .ensures, c3 .inside .ensures, c .within3 .ensures, b .target, b .reference, b .torque, b .flux, wide (back s .q) .is, back s .f)
+    simp (
+      c1 .within .ensures,
+      c2 .within2 .ensures,
+      c3 .inside .ensures,
+      c .within3 .ensures,
+      b .target,
+      b .reference,
+      b .torque,
+      b .flux,
+      wide (back s .q) .is,
+      back s .f,
+    )
 
 cast-inside : tie.Need-cast-inside
 cast-inside c = fits (field (back (c .before .before .before .before .before .before) .q)) tt

@@ -22,12 +22,14 @@ flux-is c =
     let s = c .before .before in
     answer w32 (c .flux-next .ok) .is
     ∙ c .flux-next .ensures
-    ∙ ap₃ fluxNext (sized (s .fits .kr) (s .pre .kr-size) .is) (local w32 {x = s .args .f .flux} (s .pre .flux-size) tt .is) (sized (s .fits .d) (s .pre .d-size) .is)
+    ∙ ap₃ fluxNext (sized (s .fits .kr) (s .pre .kr-size) .is)
+    (local w32 {x = s .args .f .flux} (s .pre .flux-size) tt .is) (sized (s .fits .d) (s .pre .d-size) .is)
 
 slip-reads : (c : tie.After-slip) → Reads (m32 (c .slip .result)) (slip-at (c .before .before .before)) slipEnd
 slip-reads c =
     let s = c .before .before .before in
-    stored w32 (result (c .slip .ensures ∙ ap₃ slip (sized (s .fits .kt) (s .pre .kt-size) .is) (flux-is (c .before)) (sized (s .fits .q) (s .pre .q-size) .is)) (slip-size (s .args .kt) (flux-at s) (s .args .q))) tt
+    stored w32 (result (c .slip .ensures ∙ ap₃ slip (sized (s .fits .kt) (s .pre .kt-size) .is)
+    (flux-is (c .before)) (sized (s .fits .q) (s .pre .q-size) .is)) (slip-size (s .args .kt) (flux-at s) (s .args .q))) tt
 
 returns : tie.Need-returns
 unfolding followed
@@ -38,13 +40,18 @@ returns c =
     (flux-is (k .before))
     (answer w32 (c .angle-next .ok) .is
     ∙ c .angle-next .ensures
-    ∙ ap₄ (λ (h a n s : ℤ). angleNext h a (n +ℤ s)) (sized (s .fits .kth) (s .pre .kth-size) .is) (local w32 {x = s .args .f .angle} (s .pre .angle-size) tt .is) (sized (s .fits .n) (s .pre .n-size) .is) (slip-reads k .is))
+    ∙ ap₄ (λ (h a n s : ℤ). angleNext h a (n +ℤ s)) (sized (s .fits .kth) (s .pre .kth-size) .is)
+    (local w32 {x = s .args .f .angle} (s .pre .angle-size) tt .is) (sized (s .fits .n) (s .pre .n-size) .is) (slip-reads k .is))
 
 -- what the last call requires
 angle-next-requires : tie.Need-angle-next-requires
 angle-next-requires c κs =
-    let s = c .before .before .before .before in
-    (bound (sized (s .fits .kth) (s .pre .kth-size)) tt, bound (local w32 {x = s .args .f .angle} (s .pre .angle-size) tt) tt, bound (sized (s .fits .n) (s .pre .n-size)) tt, bound (slip-reads (c .before)) tt)
+    let s = c .before .before .before .before in (
+      bound (sized (s .fits .kth) (s .pre .kth-size)) tt,
+      bound (local w32 {x = s .args .f .angle} (s .pre .angle-size) tt) tt,
+      bound (sized (s .fits .n) (s .pre .n-size)) tt,
+      bound (slip-reads (c .before)) tt,
+    )
 
 pub followed-spec : {M : Type 1} → statement M
 followed-spec = tie.close (tie.spec (λ c κs. search needs) (λ c κs. search needs) angle-next-requires returns)

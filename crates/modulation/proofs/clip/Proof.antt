@@ -55,7 +55,8 @@ clipped-by : (s : tie.Start) {t : Bool} → ltZ (m32 (s .args .t)) (m32 (m32 (s 
 clipped-by s = tested (period s) (stored w32 (plus (one s) (two s)) tt)
 
 made : (c : tie.Joined2) {n : ℤ} → n ≡ lesser (c .before .before .args .t2) (roomOf (c .before .before))
-    → _≡_ {A = Times} (record { t1 = toZ w32 (c .if2 .first); t2 = n; clipped = true }) (clippedTimes (c .before .before .args .t) (c .before .before .args .t1) (c .before .before .args .t2))
+    → _≡_ {A = Times} (record { t1 = toZ w32 (c .if2 .first); t2 = n; clipped = true })
+    (clippedTimes (c .before .before .args .t) (c .before .before .args .t1) (c .before .before .args .t2))
 unfolding clippedTimes cut
 made c e = rw (← clipped-by (c .before .before) (c .before .if1 .taken), first c .is, e)
 

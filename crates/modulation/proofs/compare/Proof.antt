@@ -14,7 +14,8 @@ use Rattle.modulation.proofs.compare.Tie as tie
 less-one : (s : tie.Start) → Reads (m32 (s .args .t) -ℤ m32 (s .args .t1)) (s .args .t -ℤ s .args .t1) (longest + longest)
 less-one s = minus (sized (s .fits .t) (s .pre .0)) (sized (s .fits .t1) (s .pre .1))
 
-rest : (s : tie.Start) → Reads (m32 (m32 (s .args .t) -ℤ m32 (s .args .t1)) -ℤ m32 (s .args .t2)) (s .args .t -ℤ s .args .t1 -ℤ s .args .t2) (longest + longest + longest)
+rest : (s : tie.Start) → Reads (m32 (m32 (s .args .t) -ℤ m32 (s .args .t1)) -ℤ m32 (s .args .t2))
+    (s .args .t -ℤ s .args .t1 -ℤ s .args .t2) (longest + longest + longest)
 rest s = minus (stored w32 (less-one s) tt) (sized (s .fits .t2) (s .pre .2))
 
 -- the compare at place k, and the readings of all three
@@ -35,7 +36,8 @@ second : (c : tie.After-down) → Reads (m32 (m64 (c .down .result)) +ℤ m32 (c
 unfolding compareAt
 second c = plus (first c) (sized (c .before .fits .t1) (c .before .pre .1))
 
-third : (c : tie.After-down) → Reads (m32 (m32 (m64 (c .down .result)) +ℤ m32 (c .before .args .t1)) +ℤ m32 (c .before .args .t2)) (at 2 (c .before)) (half + longest + longest)
+third : (c : tie.After-down)
+    → Reads (m32 (m32 (m64 (c .down .result)) +ℤ m32 (c .before .args .t1)) +ℤ m32 (c .before .args .t2)) (at 2 (c .before)) (half + longest + longest)
 unfolding compareAt
 third c = plus (stored w32 (second c) tt) (sized (c .before .fits .t2) (c .before .pre .2))
 

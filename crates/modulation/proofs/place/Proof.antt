@@ -25,7 +25,8 @@ small : (s : tie.Start) → (natAbs (m32 (s .args .t)) ≤ longest) × (natAbs (
 small s = (bound (time s) tt, bound (one s) tt, bound (two s) tt)
 
 -- what `compare` gave, in a field
-gave : (s : tie.Start) (k : ℕ) {o : ℤ} → mag o < 2 ^ 31 → o ≡ compareAt k (m32 (s .args .t)) (m32 (s .args .h .t1)) (m32 (s .args .h .t2)) → m32 o ≡ compareAt k (s .args .t) (s .args .h .t1) (s .args .h .t2)
+gave : (s : tie.Start) (k : ℕ) {o : ℤ} → mag o < 2 ^ 31 → o ≡ compareAt k (m32 (s .args .t)) (m32 (s .args .h .t1)) (m32 (s .args .h .t2))
+    → m32 o ≡ compareAt k (s .args .t) (s .args .h .t1) (s .args .h .t2)
 gave s k f e = answer w32 f .is ∙ e ∙ ap₃ (compareAt k) (time s .is) (one s .is) (two s .is)
 
 returns : tie.Need-returns

@@ -29,8 +29,12 @@ abbrev μ-loop : tie.MeasureT-loop
 -- how many numbers there are is part of what an array is
 loop-holds : tie.Need-loop-holds Inv-loop μ-loop
 loop-holds c =
-    let s = c .before .before .before .before in
-    (upto-start isCall callsAfter (asFed (s .args .s)) (now (s .args .chunk)), length-unmapped _ (s .args .s .numbers) most (s .good .0 .1 .1 .1 .1 .0 .1 .0 .1), omega arith, refl)
+    let s = c .before .before .before .before in (
+      upto-start isCall callsAfter (asFed (s .args .s)) (now (s .args .chunk)),
+      length-unmapped _ (s .args .s .numbers) most (s .good .0 .1 .1 .1 .1 .0 .1 .0 .1),
+      omega arith,
+      refl,
+    )
 
 put-answer-requires : tie.Need-put-answer-requires Inv-loop μ-loop
 put-answer-requires c κs =
@@ -50,8 +54,12 @@ loop-again c =
     let i = t .before .before .loop .inv in
     let h = t .before .loop-test .taken in
     let e = f .line-fed .ensures in
-    let b = ap (λ (b : Bool). f .line-fed .result .ended && (not (f .line-fed .result .line .bad) && b)) (sym (k .is-call .ensures)) ∙ y .if2 .taken in
-    (call-taken (i .0) h (not-true _ (t .if1 .taken)) (e .1 .0) (e .0) b (c .before .next .ensures) (c .line-start .ensures), i .1, omega (arith, p .put-answer .ensures, i .2, e .1 .1 h), p .put-answer .kept .1 .0 ∙ i .3)
+    let b = ap (λ (b : Bool). f .line-fed .result .ended && (not (f .line-fed .result .line .bad) && b)) (sym (k .is-call .ensures)) ∙ y .if2 .taken in (
+      call-taken (i .0) h (not-true _ (t .if1 .taken)) (e .1 .0) (e .0) b (c .before .next .ensures) (c .line-start .ensures),
+      i .1,
+      omega (arith, p .put-answer .ensures, i .2, e .1 .1 h),
+      p .put-answer .kept .1 .0 ∙ i .3,
+    )
 
 loop-again-2 : tie.Need-loop-again-2 Inv-loop μ-loop
 loop-again-2 c =

@@ -25,7 +25,17 @@ returns c =
     let first = readOk32 (getD n 0 (pos 0)) (k .call .given) in
     let seen = readOk32 (getD n (recordAt + 1) (pos 0)) (a1 .within-arg .given) in
     let tripped = readOk32 (getD n (recordAt + 14) (pos 0)) (a2 .within-arg2 .given) in
-    simp (e1 .within .ensures, e2 .within2 .ensures, e3 .within3 .ensures, e4 .within4 .ensures, e5 .within5 .ensures, c .within6 .ensures, first, seen, tripped)
+    simp (
+      e1 .within .ensures,
+      e2 .within2 .ensures,
+      e3 .within3 .ensures,
+      e4 .within4 .ensures,
+      e5 .within5 .ensures,
+      c .within6 .ensures,
+      first,
+      seen,
+      tripped,
+    )
 
 pub is-call-spec : {M : Type 1} → statement M
 is-call-spec =

@@ -44,7 +44,8 @@ unfolding outOf
 out-reads c =
     let s = c .before .before .before in
     let l = sized (s .fits .limit) (s .pre .limit-size) in
-    result (c .hold-to .ensures ∙ ap₃ held (stored w64 (u-reads (c .before)) tt .is) (ap negℤ (l .is)) (l .is)) (held-abs _ (s .args .limit) widest (s .pre .limit-size) (s .pre .limits))
+    result (c .hold-to .ensures ∙ ap₃ held (stored w64 (u-reads (c .before)) tt .is) (ap negℤ (l .is)) (l .is))
+    (held-abs _ (s .args .limit) widest (s .pre .limit-size) (s .pre .limits))
 
 -- the code's out − u
 abbrev over : tie.After-hold-to → ℤ
@@ -57,14 +58,17 @@ over-reads c = minus (stored w64 (stored w32 (out-reads c) tt) tt) (stored w64 (
 abbrev start : tie.After-struct-told3 → tie.Start
 start c = c .before .before .before .before .before .before .before
 
-taken-reads : (c : tie.After-struct-told3) → Reads (m64 (over (c .before .before .before .before)) *ℤ m64 (m32 (start c .args .g .kcor))) ((out-at (start c) -ℤ sum-at (start c)) *ℤ start c .args .g .kcor) 1140781056
+taken-reads : (c : tie.After-struct-told3) → Reads (m64 (over (c .before .before .before .before)) *ℤ m64 (m32 (start c .args .g .kcor)))
+    ((out-at (start c) -ℤ sum-at (start c)) *ℤ start c .args .g .kcor) 1140781056
 taken-reads c = times (stored w64 (over-reads (c .before .before .before .before)) tt) (stored w64 (local w32 (start c .pre .kcor-size) tt) tt)
 
 -- what is rounded for x'
-sum-reads : (c : tie.After-struct-told3) → Reads (m64 (c .before .before .times .result) +ℤ m64 (m64 (over (c .before .before .before .before)) *ℤ m64 (m32 (start c .args .g .kcor)))) (start c .args .e *ℤ start c .args .g .ki +ℤ (out-at (start c) -ℤ sum-at (start c)) *ℤ start c .args .g .kcor) 2214457345
+sum-reads : (c : tie.After-struct-told3) → Reads (m64 (c .before .before .times .result) +ℤ m64 (m64 (over (c .before .before .before .before)) *ℤ m64
+    (m32 (start c .args .g .kcor)))) (start c .args .e *ℤ start c .args .g .ki +ℤ (out-at (start c) -ℤ sum-at (start c)) *ℤ start c .args .g .kcor) 2214457345
 sum-reads c =
     let s = start c in
-    plus (stored w64 (multiplied (c .before .before .times .ensures) (sized (s .fits .e) (s .pre .e-size)) (local w32 {x = s .args .g .ki} (s .pre .ki-size) tt)) tt) (stored w64 (taken-reads c) tt)
+    plus (stored w64 (multiplied (c .before .before .times .ensures)
+    (sized (s .fits .e) (s .pre .e-size)) (local w32 {x = s .args .g .ki} (s .pre .ki-size) tt)) tt) (stored w64 (taken-reads c) tt)
 
 next-reads : (c : tie.After-down) → Reads (m64 (m32 (start (c .before) .args .x)) +ℤ m64 (c .down .result)) (next-at (start (c .before))) 548831
 unfolding nextOf
@@ -74,7 +78,8 @@ next-reads c =
 returns : tie.Need-returns
 unfolding regulated
 returns c =
-    ap₂ (λ (o n : ℤ). record { out = o; x = n }) (stored w32 (out-reads (c .before .before .before .before .before)) tt .is) (stored w32 (stored w64 (next-reads c) tt) tt .is)
+    ap₂ (λ (o n : ℤ). record { out = o; x = n }) (stored w32 (out-reads (c .before .before .before .before .before)) tt .is)
+    (stored w32 (stored w64 (next-reads c) tt) tt .is)
 
 hold-to-requires : tie.Need-hold-to-requires
 hold-to-requires c κs = let s = c .before .before in rw (sized (s .fits .limit) (s .pre .limit-size) .is) (s .pre .limits)

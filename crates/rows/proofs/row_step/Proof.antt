@@ -24,7 +24,8 @@ returns c =
     let l = now (s .args .samples) in
     let i = s .args .i in
     c .step-sound .ensures
-    ∙ ap₃ (steppedSound d) (readOk32 (getD l (3 * i) (pos 0)) (k .before .before .ia .given)) (readOk32 (getD l (3 * i + 1) (pos 0)) (k .before .ib .given)) (readOk32 (getD l (3 * i + 2) (pos 0)) (k .count .given))
+    ∙ ap₃ (steppedSound d) (readOk32 (getD l (3 * i) (pos 0)) (k .before .before .ia .given))
+    (readOk32 (getD l (3 * i + 1) (pos 0)) (k .before .ib .given)) (readOk32 (getD l (3 * i + 2) (pos 0)) (k .count .given))
     ∙ sym (step-is-sound d _ _ _ (sound→ d (s .pre .0)))
 
 step-sound-requires : tie.Need-step-sound-requires

@@ -38,7 +38,8 @@ loop-again : tie.Need-loop-again Inv-loop μ-loop
 loop-again c =
     let r = c .before .before .before .before in
     let k = r .before .before in
-    more (k .before .before .loop .inv) (k .row-step .result) (r .put-row .last .0) (c .before .before .accepted-in .result) (c .before .clipped-in .result) (k .before .loop-test .taken)
+    more (k .before .before .loop .inv) (k .row-step .result)
+    (r .put-row .last .0) (c .before .before .accepted-in .result) (c .before .clipped-in .result) (k .before .loop-test .taken)
     (k .row-step .ensures) (r .put-row .ensures) (r .put-row .kept .0) (c .before .before .accepted-in .ensures) (c .before .clipped-in .ensures)
 
 row-step-requires : tie.Need-row-step-requires Inv-loop μ-loop

@@ -34,7 +34,8 @@ returns-2 c =
 is-sound : (c : tie.Else1) → sound (c .before .before .before .before .before .args .d) ≡ true
 is-sound c =
     let k = c .before .before .before .before in
-    sound-parts _ (checked-accepted _ _ (sym (k .check .ensures) ∙ c .before .before .enum-told .given .1) .0) (yes (c .before .words-ok .ensures) (c .if1 .left))
+    sound-parts _ (checked-accepted _ _ (sym (k .check .ensures) ∙ c .before .before .enum-told .given .1) .0)
+    (yes (c .before .words-ok .ensures) (c .if1 .left))
 
 not-broken : (c : tie.Else1) → broken (c .before .before .before .before .before .args .d) ≡ false
 unfolding broken
@@ -48,7 +49,8 @@ returns-3 c =
     rw (r .0, r .1) (c .no-rows3 .ensures, refl)
 
 -- and there is room for its rows
-fit : (c : tie.Else2) → rowsFit (length (now (c .before .before .before .before .before .before .before .args .samples))) (length (now (c .before .before .before .before .before .before .before .args .out))) ≡ true
+fit : (c : tie.Else2) → rowsFit (length (now (c .before .before .before .before .before .before .before .args .samples)))
+    (length (now (c .before .before .before .before .before .before .before .args .out))) ≡ true
 fit c = yes (c .before .rows-fit .ensures) (c .if2 .left)
 
 returns-4 : tie.Need-returns-4

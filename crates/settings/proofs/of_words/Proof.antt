@@ -24,7 +24,24 @@ returns c =
     let c3 = c4 .before in
     let c2 = c3 .before in
     let c1 = c2 .before in
-    simp (readOk32, c1 .t3 .given, c2 .t5 .given, c3 .t7 .given, c4 .t9 .given, c5 .t11 .given, c6 .t13 .given, c7 .t15 .given, c8 .t17 .given, c9 .t19 .given, c10 .t21 .given, c11 .t23 .given, c12 .t25 .given, c13 .t27 .given, c14 .t29 .given, c15 .t31 .given)
+    simp (
+      readOk32,
+      c1 .t3 .given,
+      c2 .t5 .given,
+      c3 .t7 .given,
+      c4 .t9 .given,
+      c5 .t11 .given,
+      c6 .t13 .given,
+      c7 .t15 .given,
+      c8 .t17 .given,
+      c9 .t19 .given,
+      c10 .t21 .given,
+      c11 .t23 .given,
+      c12 .t25 .given,
+      c13 .t27 .given,
+      c14 .t29 .given,
+      c15 .t31 .given,
+    )
 
 -- what `search` closes is that the places are in the list
 pub of-words-spec : {M : Type 1} → statement M

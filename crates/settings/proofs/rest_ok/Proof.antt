@@ -15,7 +15,20 @@ returns c =
     let c1 = c2 .before .before in
     let s = c1 .before .before in
     let b = from-bits (s .args .s) _ (s .good .0 .1 .1) in
-    simp (c1 .within .ensures, c2 .within2 .ensures, c3 .within3 .ensures, c4 .within4 .ensures, c5 .within5 .ensures, c .within6 .ensures, b .kr, b .kt, b .kth, b .kn, b .f, b .r)
+    simp (
+      c1 .within .ensures,
+      c2 .within2 .ensures,
+      c3 .within3 .ensures,
+      c4 .within4 .ensures,
+      c5 .within5 .ensures,
+      c .within6 .ensures,
+      b .kr,
+      b .kt,
+      b .kth,
+      b .kn,
+      b .f,
+      b .r,
+    )
 
 pub rest-ok-spec : {M : Type 1} → statement M
 rest-ok-spec = tie.close (tie.spec (λ c κs. tt) (λ c κs. tt) (λ c κs. tt) (λ c κs. tt) (λ c κs. tt) (λ c κs. tt) returns)

@@ -21,7 +21,8 @@ movement c =
     let s = c .before in
     stored w32 (result (c .moved .ensures ∙ ap (movedOf (s .args .s)) (word (s .fits .count) .is)) (moved-size (s .args .s) (s .args .count))) tt
 
-sum : (c : tie.After-moved) → Reads (m32 (c .before .args .s .sum) +ℤ m32 (c .moved .result)) (c .before .args .s .sum +ℤ movedOf (c .before .args .s) (c .before .args .count)) 983040
+sum : (c : tie.After-moved)
+    → Reads (m32 (c .before .args .s .sum) +ℤ m32 (c .moved .result)) (c .before .args .s .sum +ℤ movedOf (c .before .args .s) (c .before .args .count)) 983040
 sum c = plus (local w32 {x = c .before .args .s .sum} (c .before .pre .0 .sum) tt) (movement c)
 
 steps : (s : tie.Start) → Reads (m32 (s .args .s .steps) +ℤ pos 1) (s .args .s .steps +ℤ pos 1) 30

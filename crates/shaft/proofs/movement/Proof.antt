@@ -36,7 +36,8 @@ signed-requires c κs = tt
 is-modulo : (x y : ℤ) (r : ℕ) → Count x → Count y → r < 65536 → (r + natAbs y) % 65536 ≡ natAbs x → pos r ≡ modulo (x -ℤ y) (pos 65536)
 is-modulo (pos a) (pos b) r h k l e =
     let t = (r + b) / 65536 in
-    modulo-unique (pos a -ℤ pos b) (pos 65536) (negℤ (pos t)) (pos r) (turns a b r t (omega (arith, e, div-add-mod (r + b) 65536))) (omega (arith, order)) (omega (arith, order))
+    modulo-unique (pos a -ℤ pos b) (pos 65536) (negℤ (pos t))
+    (pos r) (turns a b r t (omega (arith, e, div-add-mod (r + b) 65536))) (omega (arith, order)) (omega (arith, order))
   where
     turns : (a b r t : ℕ) → r + b ≡ 65536 * t + a → pos a -ℤ pos b ≡ pos 65536 *ℤ negℤ (pos t) +ℤ pos r
     turns a b r t e = simp diffs (omega arith)
@@ -48,7 +49,8 @@ difference c =
     let s = c .before in
     let r = c .wrapping-sub-u16 .result in
     is-modulo (s .args .count) (s .args .previous) r (s .pre .0) (s .pre .1) (c .wrapping-sub-u16 .ok)
-    (ap (λ (y : ℤ). (r + natAbs y) % 65536) (sym (count-reads (s .args .previous) (s .pre .1) .is)) ∙ c .wrapping-sub-u16 .ensures ∙ ap natAbs (count-reads (s .args .count) (s .pre .0) .is))
+    (ap (λ (y : ℤ). (r + natAbs y) % 65536) (sym (count-reads (s .args .previous) (s .pre .1) .is))
+    ∙ c .wrapping-sub-u16 .ensures ∙ ap natAbs (count-reads (s .args .count) (s .pre .0) .is))
 
 returns : tie.Need-returns
 unfolding movementOf

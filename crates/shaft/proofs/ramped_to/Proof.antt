@@ -43,13 +43,15 @@ hold-requires c κs = tt
 -- also for a negative r, which the contract does not refuse
 small : (reference target r : ℤ) → natAbs reference ≤ 8191 → natAbs target ≤ 8191 → natAbs r ≤ 8191 → natAbs (rampedTo reference target r) ≤ 16382
 small reference target r h k l =
-    ramp-cases (λ n. natAbs n ≤ 16382) reference target r (λ a. omega (arith, h, l, abs-- reference r)) (λ a. omega (arith, h, l, abs-+ reference r)) (λ a b. omega (arith, k))
+    ramp-cases (λ n. natAbs n ≤ 16382) reference target r (λ a. omega (arith, h, l, abs-- reference r))
+    (λ a. omega (arith, h, l, abs-+ reference r)) (λ a b. omega (arith, k))
 
 moved : (c : tie.After-hold) → Reads (c .hold .result) (rampedTo (c .before .args .reference) (c .before .args .target) (c .before .args .r)) 16382
 unfolding rampedTo
 moved c =
     let s = c .before in
-    result (c .hold .ensures ∙ ap₃ held (stored w64 (word (s .fits .target)) tt .is) (stored w64 (minus (at s) (by s)) tt .is) (stored w64 (plus (at s) (by s)) tt .is))
+    result (c .hold .ensures
+    ∙ ap₃ held (stored w64 (word (s .fits .target)) tt .is) (stored w64 (minus (at s) (by s)) tt .is) (stored w64 (plus (at s) (by s)) tt .is))
     (small (s .args .reference) (s .args .target) (s .args .r) (s .pre .0) (s .pre .1) (s .pre .2))
 
 cast-result : tie.Need-cast-result

@@ -15,7 +15,8 @@ back : (s : tie.Start) → FromBits (s .args .s)
 back s = from-bits (s .args .s) _ (s .good .0 .1 .1)
 
 -- the movement that the steps allow
-most : (c : tie.After-times) → Reads (m64 (c .times .result)) (pos farthest *ℤ c .before .before .before .before .before .before .args .s .steps) (farthest * 2 ^ 31)
+most : (c : tie.After-times)
+    → Reads (m64 (c .times .result)) (pos farthest *ℤ c .before .before .before .before .before .before .args .s .steps) (farthest * 2 ^ 31)
 most c = stored w64 (multiplied (c .times .ensures) (lit (pos farthest)) (field (back (c .before .before .before .before .before .before) .steps))) tt
 
 returns : tie.Need-returns

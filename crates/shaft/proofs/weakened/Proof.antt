@@ -44,7 +44,8 @@ flux c =
     named
     (result
     (c .scaled .ensures ∙ ap₂ (λ (f d : ℤ). down (f *ℤ pos 4096) d) (word (s .fits .f) .is) (size (c .before .before) .is))
-    (le-trans (down-abs (s .args .f *ℤ pos 4096) (pos (natAbs (s .args .n))) (some (c .before))) (abs-*≤ 8191 4096 (s .args .f) (pos 4096) (s .pre .0) (omega arith))))
+    (le-trans (down-abs (s .args .f *ℤ pos 4096) (pos (natAbs (s .args .n))) (some (c .before)))
+    (abs-*≤ 8191 4096 (s .args .f) (pos 4096) (s .pre .0) (omega arith))))
     (sym (weakened-fast (s .args .f) (s .args .n) (fast (c .before))))
 
 cast-result : tie.Need-cast-result

@@ -34,12 +34,15 @@ cos c =
     let s = c .before .before .before in
     stored w32 (result (c .cosine-in .ensures ∙ cosine-in-is _ _ (s .pre .2) ∙ ap cosineAt (back s .field .angle)) (cosine-size (s .args .d .field .angle))) tt
 
-after-rules-1-and-2 : (c : tie.After-rules-1-and-2) → c .rules-1-and-2 .result ≡ rules1And2 (c .before .before .before .before .args .d) (c .before .before .before .before .args .count)
+after-rules-1-and-2 : (c : tie.After-rules-1-and-2)
+    → c .rules-1-and-2 .result ≡ rules1And2 (c .before .before .before .before .args .d) (c .before .before .before .before .args .count)
 after-rules-1-and-2 c =
     let s = c .before .before .before .before in
     c .rules-1-and-2 .ensures ∙ ap (rules1And2 (s .args .d)) (word (s .fits .count) .is)
 
-currents-are : (c : tie.After-currents) → c .currents .result ≡ currents (c .before .before .before .before .before .args .ia) (c .before .before .before .before .before .args .ib) (sineAt (c .before .before .before .before .before .args .d .field .angle)) (cosineAt (c .before .before .before .before .before .args .d .field .angle))
+currents-are : (c : tie.After-currents) → c .currents .result ≡ currents (c .before .before .before .before .before .args .ia)
+    (c .before .before .before .before .before .args .ib) (sineAt (c .before .before .before .before .before .args .d .field .angle))
+    (cosineAt (c .before .before .before .before .before .args .d .field .angle))
 currents-are c =
     let k = c .before .before in
     let s = k .before .before .before in
@@ -79,7 +82,8 @@ rules-6-to-9-requires c κs =
     let d = s .args .d in
     let a = d .field .angle in
     let h = size.samples→ (s .args .ia) (s .args .ib) (s .args .count) (s .pre .1) in
-    let z = currents-size (s .args .ia) (s .args .ib) (sineAt a) (cosineAt a) (size.samples (s .args .ia) (s .args .ib) (s .args .count) (s .pre .1)) (sine-cosine-sized a) in (
+    let z = currents-size (s .args .ia) (s .args .ib) (sineAt a)
+    (cosineAt a) (size.samples (s .args .ia) (s .args .ib) (s .args .count) (s .pre .1)) (sine-cosine-sized a) in (
       rw (after-rules-1-and-2 (c .before), currents-are c) (record {
         is-sound = sound← (rules1And2 d (s .args .count)) (rules-1-and-2-sound d (s .args .count) (is-sound s) (h .3));
         d-size = z .0;

@@ -27,7 +27,8 @@ speed s = local w32 (s .pre .1) tt
 ramped : (c : tie.After-ramped-by) → c .ramped-by .result ≡ rampedBy (c .before .before .args .d) (c .before .before .args .s .speed)
 ramped c = let s = c .before .before in c .ramped-by .ensures ∙ ap (rampedBy (s .args .d)) (speed s .is)
 
-reference : (c : tie.After-ramped-by) → Reads (m32 (c .ramped-by .result .reference)) (rampedBy (c .before .before .args .d) (c .before .before .args .s .speed) .reference) targetEnd
+reference : (c : tie.After-ramped-by)
+    → Reads (m32 (c .ramped-by .result .reference)) (rampedBy (c .before .before .args .d) (c .before .before .args .s .speed) .reference) targetEnd
 reference c =
     let s = c .before .before in
     stored w32 (result (ap (λ (x : Command). x .reference) (ramped c)) (ramped-size (s .args .d) (s .args .s .speed) (sound→ (s .args .d) (s .pre .0)))) tt
@@ -55,7 +56,8 @@ steered-requires c κs =
     let d = s .args .d in
     let h = sound→ d (s .pre .0) in
     let b = from-bits d _ (s .good .0 .1 .1) in
-    let e = error-sized (d .integrals .speed) (rampedBy d (s .args .s .speed) .reference) (s .args .s .speed) (size.speed-integral-size d h) (ramped-size d (s .args .s .speed) h) (le-trans (s .pre .1) (leb→le fastest rotorEnd tt)) in (
+    let e = error-sized (d .integrals .speed) (rampedBy d (s .args .s .speed) .reference)
+    (s .args .s .speed) (size.speed-integral-size d h) (ramped-size d (s .args .s .speed) h) (le-trans (s .pre .1) (leb→le fastest rotorEnd tt)) in (
       record {
         x-size = bound (local w32 {x = d .integrals .speed} (size.speed-integral-size d h) tt) tt;
         wanted-size = bound (reference k) tt;

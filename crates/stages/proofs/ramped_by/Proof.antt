@@ -28,8 +28,11 @@ ramped-to-requires : tie.Need-ramped-to-requires
 ramped-to-requires c κs =
     let s = c .before .before .before in
     let d = s .args .d in
-    let h = sound→ d (s .pre .0) in
-    (bound (local w32 {x = d .command .reference} (size.reference-size d h) tt) tt, bound (local w32 {x = d .command .target} (size.target-size d h) tt) tt, bound (local w32 {x = d .settings .r} (size.r-size d h) tt) tt)
+    let h = sound→ d (s .pre .0) in (
+      bound (local w32 {x = d .command .reference} (size.reference-size d h) tt) tt,
+      bound (local w32 {x = d .command .target} (size.target-size d h) tt) tt,
+      bound (local w32 {x = d .settings .r} (size.r-size d h) tt) tt,
+    )
 
 weakened-requires : tie.Need-weakened-requires
 weakened-requires c κs =

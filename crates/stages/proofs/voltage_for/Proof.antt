@@ -23,7 +23,8 @@ back s = from-bits (s .args .d) _ (s .good .0 .1 .1)
 is-sound : (s : tie.Start) → Sound (s .args .d)
 is-sound s = sound→ (s .args .d) (s .pre .is-sound)
 
-d-is : (c : tie.After-steered) → c .steered .result ≡ dRegulated (c .before .before .before .before .before .before .args .d) (c .before .before .before .before .before .before .args .i)
+d-is : (c : tie.After-steered)
+    → c .steered .result ≡ dRegulated (c .before .before .before .before .before .before .args .d) (c .before .before .before .before .before .before .args .i)
 unfolding dRegulated currentRegulated
 d-is c =
     let g = c .before .before .before .before .before in
@@ -32,7 +33,9 @@ d-is c =
     let i = rotor-told (s .args .i) _ (s .good .1 .0 .1 .1) in
     c .steered .ensures ∙ ap₄ regulated (b .integrals .d) (ap₂ _-ℤ_ (b .command .flux) (i .d)) (g .current-gains .ensures) (b .settings .v)
 
-q-is : (c : tie.After-steered2) → c .steered2 .result ≡ qRegulated (c .before .before .before .before .before .before .before .before .before .before .before .args .d) (c .before .before .before .before .before .before .before .before .before .before .before .args .i)
+q-is : (c : tie.After-steered2) → c .steered2 .result ≡ qRegulated
+    (c .before .before .before .before .before .before .before .before .before .before .before .args .d)
+    (c .before .before .before .before .before .before .before .before .before .before .before .args .i)
 unfolding qRegulated currentRegulated
 q-is c =
     let g = c .before .before .before .before .before .before .before .before .before .before in

@@ -44,7 +44,8 @@ loop-again c =
     let f = k .before .before in
     let t = f .before .before in
     let e = f .line-fed .ensures in
-    telling-row (t .before .before .loop .inv) (t .before .loop-test .taken) (not-true _ (t .if1 .taken)) (e .1 .1 (t .before .loop-test .taken)) (e .1 .0) (e .0)
+    telling-row (t .before .before .loop .inv) (t .before .loop-test .taken)
+    (not-true _ (t .if1 .taken)) (e .1 .1 (t .before .loop-test .taken)) (e .1 .0) (e .0)
     (ap (λ (b : Bool). f .line-fed .result .ended && b) (sym (k .is-row .ensures)) ∙ y .if2 .taken)
     (r .row-told .ensures .0) (c .line-start .ensures) (r .row-told .ensures .1) (r .row-told .ensures .2) (r .row-told .ensures .3)
 
@@ -55,7 +56,8 @@ loop-again-2 c =
     let f = k .before .before in
     let t = f .before .before in
     let e = f .line-fed .ensures in
-    telling-else (t .before .before .loop .inv) (t .before .loop-test .taken) (not-true _ (t .if1 .taken)) (e .1 .1 (t .before .loop-test .taken)) (e .1 .0) (e .0)
+    telling-else (t .before .before .loop .inv) (t .before .loop-test .taken)
+    (not-true _ (t .if1 .taken)) (e .1 .1 (t .before .loop-test .taken)) (e .1 .0) (e .0)
     (ap (λ (b : Bool). f .line-fed .result .ended && b) (sym (k .is-row .ensures)) ∙ y .if2 .left)
 
 -- the two ends: stopped, or past the last byte

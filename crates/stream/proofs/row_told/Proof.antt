@@ -16,7 +16,8 @@ use Rattle.stream.proofs.row_told.Statement.{statement}
 use Rattle.stream.proofs.row_told.Tie as tie
 
 -- the step is the row's
-is-step : (c : tie.After-step-sound) → c .step-sound .result ≡ stepOf (c .before .before .before .before .before .args .t) (c .before .before .before .before .before .args .t2)
+is-step : (c : tie.After-step-sound)
+    → c .step-sound .result ≡ stepOf (c .before .before .before .before .before .args .t) (c .before .before .before .before .before .args .t2)
 unfolding rowStepped
 is-step c =
     let k = c .before in
@@ -24,7 +25,8 @@ is-step c =
     let d = s .args .t .drive in
     let l = s .args .t2 in
     c .step-sound .ensures
-    ∙ ap₃ (steppedSound d) (readOk32 (getD l 0 (pos 0)) (k .before .before .step-sound-arg .given)) (readOk32 (getD l 1 (pos 0)) (k .before .step-sound-arg2 .given)) (readOk32 (getD l 2 (pos 0)) (k .step-sound-arg3 .given))
+    ∙ ap₃ (steppedSound d) (readOk32 (getD l 0 (pos 0)) (k .before .before .step-sound-arg .given))
+    (readOk32 (getD l 1 (pos 0)) (k .before .step-sound-arg2 .given)) (readOk32 (getD l 2 (pos 0)) (k .step-sound-arg3 .given))
     ∙ sym (step-is-sound d _ _ _ (sound→ d (s .pre .0)))
 
 returns : tie.Need-returns

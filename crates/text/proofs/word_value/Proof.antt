@@ -17,7 +17,8 @@ use Rattle.text.proofs.word_value.Tie as tie
 
 fits : (z : ℤ) → SFits w32 (held z least greatest)
 fits z =
-    fits-between w32 least (held z least greatest) greatest (record { sfits = search needs }) (record { sfits = search needs }) (held-lo z least greatest (leZ-yes tt)) (held-hi z least greatest (leZ-yes tt))
+    fits-between w32 least (held z least greatest) greatest (record { sfits = search needs })
+    (record { sfits = search needs }) (held-lo z least greatest (leZ-yes tt)) (held-hi z least greatest (leZ-yes tt))
 
 value : (c : tie.After-hold) → m64 (c .hold .result) ≡ wordValue (c .before .before .args .w)
 unfolding wordValue
