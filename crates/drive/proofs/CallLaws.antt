@@ -1,6 +1,6 @@
 -- What the check of settings settles: that refused ones make a record broken, and what settings make.
 -- Assumes nothing.
-use mathlib.Core.Path.{_≡_, refl, sym, _∙_, ap}
+use mathlib.Core.Path.{_≡_, refl, sym, ap}
 use mathlib.Core.Bool.{true, cond}
 use lib.IntN.{ℤ}
 use Rattle.settings.specs.declared.Settings.{Settings}

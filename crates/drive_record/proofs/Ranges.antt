@@ -3,7 +3,7 @@
 use mathlib.Core.Path.{_≡_, refl, sym, ap}
 use mathlib.Core.Bool.{Bool, true, false, not, _&&_}
 use mathlib.Core.Logic.{_↔_}
-use lib.IntN.{ℤ, pos}
+use lib.IntN.{pos}
 use Rattle.fixed.specs.Fixed.{within, inside}
 use Rattle.fixed.proofs.HeldLaws.{and-both}
 use Rattle.fixed.proofs.Ranges.{Inside, two, three, four}

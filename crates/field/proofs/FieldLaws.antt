@@ -4,54 +4,33 @@
 use mathlib.Core.Path.{_≡_}
 use Prim.Native.Nat.{ℕ, _≤_}
 use native.Mathlib.Omega.{arith}
-use lib.Dec.{lit<}
 use lib.IntN.{ℤ, pos, negℤ, natAbs, _+ℤ_, _-ℤ_, _*ℤ_}
 use lib.Signed.{_≤ℤ_, _<ℤ_, ltZ, ltZ-yes}
 use Rattle.fixed.specs.Fixed.{down, held, Between}
-use Rattle.fixed.proofs.Parts.{order, diffs, is-diff, cond-ind, parts-+, parts--, parts-*}
+use Rattle.fixed.proofs.Parts.{order, diffs, is-diff, cond-ind}
 use Rattle.fixed.proofs.Ring.{*-nonneg, gap-up, gap-down}
-use Rattle.fixed.proofs.Between.{between-size}
-use Rattle.fixed.proofs.DownLaws.{down-low-parts, down-high-parts, modulo-lo, modulo-hi}
+use Rattle.fixed.proofs.Between.{between-size, moved-between}
+use Rattle.fixed.proofs.DownLaws.{modulo-lo, modulo-hi}
 use Rattle.fixed.proofs.HeldLaws.{held-size, if-less, if-not-less}
 use Rattle.field.specs.Field.{fluxNext, slip, angleNext, slipEnd}
 
--- 0 ≤ k ≤ 4096: k·g lies between 0 and 4096·g
-up-hi : (k g : ℤ) → pos 0 ≤ℤ ((pos 4096 -ℤ k) *ℤ g) → (k *ℤ g) ≤ℤ (pos 4096 *ℤ g)
-up-hi k g = rw (is-diff k, is-diff g) (simp diffs (omega arith))
+-- 0 ≤ k ≤ 4096: k·g lies between 0 and 4096·g, so less than 4096 past either
+below-gap : (k g : ℤ) → pos 0 ≤ℤ ((pos 4096 -ℤ k) *ℤ g) → (k *ℤ g) <ℤ (pos 4096 *ℤ (g +ℤ pos 1))
+below-gap k g = rw (is-diff k, is-diff g) (simp diffs (omega arith))
 
-down-lo : (k g : ℤ) → pos 0 ≤ℤ ((pos 4096 -ℤ k) *ℤ negℤ g) → (pos 4096 *ℤ g) ≤ℤ (k *ℤ g)
-down-lo k g = rw (is-diff k, is-diff g) (simp diffs (omega arith))
+above-gap : (k g : ℤ) → pos 0 ≤ℤ ((pos 4096 -ℤ k) *ℤ negℤ g) → (pos 4096 *ℤ g) ≤ℤ (k *ℤ g)
+above-gap k g = rw (is-diff k, is-diff g) (simp diffs (omega arith))
 
-down-hi : (k g : ℤ) → pos 0 ≤ℤ (k *ℤ negℤ g) → (k *ℤ g) ≤ℤ pos 0
-down-hi k g = rw (is-diff k, is-diff g) (simp diffs (omega arith))
+below-zero : (k g : ℤ) → pos 0 ≤ℤ (k *ℤ negℤ g) → (k *ℤ g) <ℤ pos 4096
+below-zero k g = rw (is-diff k, is-diff g) (simp diffs (omega arith))
 
 pub flux-between : (kr flux d : ℤ) → pos 0 ≤ℤ kr → kr ≤ℤ pos 4096 → Between flux (fluxNext kr flux d) d
 unfolding fluxNext
 flux-between kr flux d k0 k1 =
-    record {
-      rising = λ h. omega (
-        arith,
-        order,
-        parts-- d flux,
-        parts-+ flux (down (kr *ℤ (d -ℤ flux)) (pos 4096)),
-        down-low-parts (kr *ℤ (d -ℤ flux)) 4096 (lit< tt),
-        down-high-parts (kr *ℤ (d -ℤ flux)) 4096 (lit< tt),
-        parts-* (pos 4096) (d -ℤ flux),
-        *-nonneg k0 (gap-up flux d h),
-        up-hi kr (d -ℤ flux) (*-nonneg (gap-up kr (pos 4096) k1) (gap-up flux d h)),
-      );
-      falling = λ h. omega (
-        arith,
-        order,
-        parts-- d flux,
-        parts-+ flux (down (kr *ℤ (d -ℤ flux)) (pos 4096)),
-        down-low-parts (kr *ℤ (d -ℤ flux)) 4096 (lit< tt),
-        down-high-parts (kr *ℤ (d -ℤ flux)) 4096 (lit< tt),
-        parts-* (pos 4096) (d -ℤ flux),
-        down-hi kr (d -ℤ flux) (*-nonneg k0 (gap-down d flux h)),
-        down-lo kr (d -ℤ flux) (*-nonneg (gap-up kr (pos 4096) k1) (gap-down d flux h)),
-      );
-    }
+    let g = d -ℤ flux in
+    moved-between (pos 4096) flux d (kr *ℤ g) (ltZ-yes tt)
+    (λ h. (*-nonneg k0 (gap-up flux d h), below-gap kr g (*-nonneg (gap-up kr (pos 4096) k1) (gap-up flux d h))))
+    (λ h. (above-gap kr g (*-nonneg (gap-up kr (pos 4096) k1) (gap-down d flux h)), below-zero kr g (*-nonneg k0 (gap-down d flux h))))
 
 -- so it stays within ±20000, as d does
 pub flux-size : (kr flux d : ℤ) (m : ℕ) → pos 0 ≤ℤ kr → kr ≤ℤ pos 4096 → natAbs flux ≤ m → natAbs d ≤ m → natAbs (fluxNext kr flux d) ≤ m

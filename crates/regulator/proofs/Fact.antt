@@ -4,14 +4,13 @@
 -- Assumes nothing.
 use mathlib.Core.Path.{_≡_, sym, ap, _∙_}
 use native.Mathlib.Omega.{arith}
-use lib.Dec.{lit<}
 use lib.IntN.{ℤ, pos, negℤ, _+ℤ_, _-ℤ_, _*ℤ_}
 use lib.Signed.{_≤ℤ_, _<ℤ_, ltZ-yes}
 use Rattle.fixed.specs.Fixed.{down, Between}
-use Rattle.fixed.proofs.Parts.{order, diffs, is-diff, parts-+, parts--, parts-*, P-neg, N-neg}
+use Rattle.fixed.proofs.Parts.{order, diffs, is-diff, parts-+, P-neg, N-neg}
 use Rattle.fixed.proofs.Ring.{*-nonneg, gap-up, gap-down, *-neg-pos, *-assoc, *-left}
-use Rattle.fixed.proofs.Between.{between-in}
-use Rattle.fixed.proofs.DownLaws.{down-low, down-high, le-down, down-lt, down-low-parts, down-high-parts}
+use Rattle.fixed.proofs.Between.{between-in, moved-between}
+use Rattle.fixed.proofs.DownLaws.{down-low, down-high, le-down, down-lt}
 use Rattle.fixed.proofs.HeldLaws.{held-cases, held-lo, held-hi}
 use Rattle.regulator.specs.declared.Gains.{Gains}
 use Rattle.regulator.specs.Regulator.{sumOf, outOf, nextOf, Lawful}
@@ -27,7 +26,7 @@ module _ (y p k d v : ℤ) where
   rising-lo = rw (is-diff y, is-diff p, is-diff k, is-diff d, is-diff v) (simp diffs (omega arith))
 
   rising-hi : pos 4096 *ℤ v ≡ y *ℤ k → k ≤ℤ pos 4096 → pos 0 ≤ℤ ((pos 4096 *ℤ p +ℤ pos 4095 -ℤ y) *ℤ k)
-      → pos 0 ≤ℤ ((pos 4096 -ℤ k) *ℤ d) → sum p k d v <ℤ (pos 4096 *ℤ d +ℤ pos 4096)
+      → pos 0 ≤ℤ ((pos 4096 -ℤ k) *ℤ d) → sum p k d v <ℤ (pos 4096 *ℤ (d +ℤ pos 1))
   rising-hi = rw (is-diff y, is-diff p, is-diff k, is-diff d, is-diff v) (simp diffs (omega arith))
 
   falling-lo : pos 4096 *ℤ v ≡ y *ℤ k → pos 0 ≤ℤ ((y -ℤ pos 4096 *ℤ p) *ℤ k) → pos 0 ≤ℤ ((pos 4096 -ℤ k) *ℤ negℤ d) → (pos 4096 *ℤ d) ≤ℤ sum p k d v
@@ -70,31 +69,17 @@ module _ (x e kp k ki o : ℤ) (k0 : pos 0 ≤ℤ k) (k1 : k ≤ℤ pos 4096) (t
 
   between : Between x (x +ℤ change) o
   unfolding change
-  between = record {
-    rising = λ h. omega (
-      arith,
-      order,
-      parts-+ x change,
-      parts-- o x,
-      down-low-parts t 4096 (lit< tt),
-      down-high-parts t 4096 (lit< tt),
-      parts-* (pos 4096) d,
-      parts-+ (pos 4096 *ℤ d) (pos 4096),
-      rising-lo y p k d (e *ℤ ki) (tied-e e ki kp k tied) rest-up (*-nonneg k0 (gap-up _ _ h)),
-      rising-hi y p k d (e *ℤ ki) (tied-e e ki kp k tied) k1 rest-down (*-nonneg (gap-up _ _ k1) (gap-up _ _ h)),
-    );
-    falling = λ h. omega (
-      arith,
-      order,
-      parts-+ x change,
-      parts-- o x,
-      down-low-parts t 4096 (lit< tt),
-      down-high-parts t 4096 (lit< tt),
-      parts-* (pos 4096) d,
-      falling-lo y p k d (e *ℤ ki) (tied-e e ki kp k tied) rest-up (*-nonneg (gap-up _ _ k1) (gap-down _ _ h)),
-      falling-hi y p k d (e *ℤ ki) (tied-e e ki kp k tied) k1 rest-down (*-nonneg k0 (gap-down _ _ h)),
-    );
-  }
+  between =
+      let tied-by = tied-e e ki kp k tied in
+      moved-between (pos 4096) x o t (ltZ-yes tt)
+      (λ h. (
+        rising-lo y p k d (e *ℤ ki) tied-by rest-up (*-nonneg k0 (gap-up _ _ h)),
+        rising-hi y p k d (e *ℤ ki) tied-by k1 rest-down (*-nonneg (gap-up _ _ k1) (gap-up _ _ h)),
+      ))
+      (λ h. (
+        falling-lo y p k d (e *ℤ ki) tied-by rest-up (*-nonneg (gap-up _ _ k1) (gap-down _ _ h)),
+        falling-hi y p k d (e *ℤ ki) tied-by k1 rest-down (*-nonneg k0 (gap-down _ _ h)),
+      ))
 
 -- ════ the fact
 module _ (x e : ℤ) (g : Gains) (limit : ℤ) (lawful : Lawful g) (l1 : pos 1 ≤ℤ limit) where

@@ -1,8 +1,7 @@
 // Encoder, window, speed, ramp and field weakening: rules 1 and 2 of document 01, but for the speed regulator.
 ghost use mathlib.Core.Path.{_≡_};
 ghost use Prim.Native.Nat.{_≤_};
-ghost use lib.IntN.{pos, natAbs, negℤ};
-ghost use lib.Signed.{_≤ℤ_};
+ghost use lib.IntN.{pos, natAbs};
 ghost use Rattle.shaft.specs.Shaft.{
   signed16,
   movement as movementOf,

@@ -1,14 +1,13 @@
 -- What a step makes of a sound drive is sound: a law of the crate that owns it for each part.
 -- Assumes nothing.
-use mathlib.Core.Path.{_≡_, refl}
-use mathlib.Core.Bool.{Bool, true, false, cond}
+use mathlib.Core.Path.{_≡_}
+use mathlib.Core.Bool.{true}
 use Prim.Native.Nat.{_≤_}
 use native.Mathlib.Nat.{le-trans}
 use lib.Dec.{leb→le}
 use lib.IntN.{ℤ, pos, natAbs, _-ℤ_}
-use lib.Signed.{≤ℤ-refl}
 use Rattle.fixed.proofs.Choice.{choose}
-use Rattle.fixed.proofs.HeldLaws.{within-yes, within-abs}
+use Rattle.fixed.proofs.HeldLaws.{within-abs}
 use Rattle.regulator.specs.declared.Gains.{Gains}
 use Rattle.regulator.specs.Regulator.{regulated, Lawful}
 use Rattle.regulator.proofs.Limits.{out-inside, next-inside}
@@ -23,16 +22,13 @@ use Rattle.shaft.specs.Shaft.{thirtieth, Count}
 use Rattle.shaft.proofs.ShaftRanges.{ShaftIn, counted-in, measured-in, ramped-in, weakened-in}
 use Rattle.settings.specs.declared.Settings.{Settings}
 use Rattle.drive_record.specs.declared.Drive.{Drive}
-use Rattle.settings.specs.Settings.{accepted}
-use Rattle.fixed.specs.Fixed.{inside}
-use Rattle.drive_record.specs.Record.{targetEnd, broken}
+use Rattle.drive_record.specs.Record.{targetEnd}
 use Rattle.stages.specs.Step.{speedGains, currentGains, speedRegulated, currentRegulated, rampedBy, withTorque, withSpeed, withShaft, withCommand}
 use Rattle.stages.specs.Step.{commanded, rules1And2, currents, fieldAfter, dRegulated, qRegulated, voltageOf, voltageFor}
 use Rattle.stages.specs.Step.{withField, outcome, rules6To9, rules3To9, advanced, sampleOk, Currents, SineCosineSized}
-use Rattle.fixed.specs.Fixed.{within}
-use Rattle.fixed.proofs.Ranges.{Inside, in-lo, in-hi, in-up, inside-size, zero-inside}
+use Rattle.fixed.proofs.Ranges.{Inside, in-lo, in-hi, in-up, inside-size}
 use Rattle.settings.specs.Ranges as range
-use Rattle.settings.proofs.Ranges.{GainsIn, SettingsIn, accepted→, accepted←}
+use Rattle.settings.proofs.Ranges.{GainsIn, SettingsIn}
 use Rattle.drive_record.proofs.Ranges.{Sound}
 use Rattle.stages.proofs.Sizes as size
 

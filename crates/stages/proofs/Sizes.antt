@@ -2,16 +2,16 @@
 -- Assumes nothing.
 use mathlib.Core.Path.{_≡_}
 use mathlib.Core.Bool.{true}
-use Prim.Native.Nat.{ℕ, _*_, _≤_}
+use Prim.Native.Nat.{_≤_}
 use native.Mathlib.Nat.{le-trans}
 use native.Mathlib.Omega.{arith}
 use lib.Dec.{leb→le}
-use lib.IntN.{ℤ, pos, negsuc, negℤ, natAbs, _+ℤ_, _*ℤ_}
+use lib.IntN.{ℤ, pos, natAbs, _+ℤ_}
 use lib.Signed.{_≤ℤ_}
 use Rattle.fixed.specs.Fixed.{isIn, inside}
-use Rattle.fixed.proofs.Parts.{order, P-neg, N-neg}
-use Rattle.fixed.proofs.Size.{abs←, abs-parts}
-use Rattle.fixed.proofs.HeldLaws.{within-lo, within-hi, within-size, within-abs, within-of}
+use Rattle.fixed.proofs.Parts.{order}
+use Rattle.fixed.proofs.Size.{abs←}
+use Rattle.fixed.proofs.HeldLaws.{within-lo, within-hi, within-abs}
 use Rattle.shaft.specs.Shaft.{counts, Count}
 use Rattle.frames.specs.Frames.{sampleEnd}
 use Rattle.regulator.specs.Regulator.{widest}

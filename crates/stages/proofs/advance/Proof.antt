@@ -1,7 +1,7 @@
 -- `stages::advance` meets its contract: rules 1 and 2, then 3 to 5, then 6 to 9, with the old angle's sine and cosine.
 -- Assumes nothing.
 use mathlib.Core.Path.{_≡_, _∙_, ap, sym, subst}
-use lib.IntN.{ℤ, pos}
+use lib.IntN.{ℤ}
 use mir.Syntax.{w32}
 use Rattle.fixed.proofs.Equal.{ap₄}
 use Rattle.fixed.proofs.Ranges.{in-lo, in-hi}
