@@ -141,8 +141,8 @@ module _ {T : Type 0} (fits : List ℤ → Bool) (after : T → List ℤ → T) 
 
   part-text : (s : Fed T) (b : ℕ) (bs : List ℕ) → s .stopped ≡ false →
       textFed fits after answer s (b ∷ bs)
-      ≡ partText (s .kept) (partOf (s .reading) (b ∷ bs)) ++ textFed fits after answer
-      (partFed fits after (s .kept) (partOf (s .reading) (b ∷ bs))) (partOf (s .reading) (b ∷ bs) .behind)
+      ≡ partText (s .kept) (partOf (s .reading) (b ∷ bs))
+      ++ textFed fits after answer (partFed fits after (s .kept) (partOf (s .reading) (b ∷ bs))) (partOf (s .reading) (b ∷ bs) .behind)
   unfolding textFed partOf partFed partText
   part-text s b [] h =
       ⊎-elim (λ e. rw (text-end s b h e, e) refl) (λ e. rw (text-on s b h e, e) refl) (true-or-false (eqb b 10))

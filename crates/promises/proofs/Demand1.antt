@@ -117,14 +117,9 @@ module _ (d : Drive) (ia ib count : ℤ) where
       → ((n : ℤ) → within (pos 0) (pos 0) n ≡ false → Q (refused (withTrip d) (d .settings .t) n))
       → (stepped d ia ib count .number ≡ pos 0 → Q (advanced d ia ib count)) → Q (stepped d ia ib count)
   by-outcome Q spoilt same marked by-rules =
-      holds (step-climbs d ia ib count) Q (
-        λ b. spoilt b,
-        λ b. (
-          λ t. same (pos 7) refl t,
-          λ t.
-              (λ s. marked (pos 6) refl, λ s. by-rules (step-table d ia ib count .given (length (stepTable d ia ib count)) .1 (b, (t, (s, tt))))),
-        ),
-      )
+      let no-rung = step-table d ia ib count .given (length (stepTable d ia ib count)) .1 in
+      holds (step-climbs d ia ib count) Q
+      (λ b. spoilt b, λ b. (λ t. same (pos 7) refl t, λ t. (λ s. marked (pos 6) refl, λ s. by-rules (no-rung (b, (t, (s, tt)))))))
 
 -- ════ 11 to 13 are kept free
 pub kept-free : KeptFree

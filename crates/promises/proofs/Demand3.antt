@@ -95,15 +95,15 @@ module _ (d : Drive) (ia ib count : ℤ) (ok : stepped d ia ib count .number ≡
   unfolding regulated
   leaves-top x e i h =
       subst (λ (v : ℤ). out x e <ℤ v) (ap (λ s. s .v) (turned-settings d count))
-      (fact.leaves-top x e (currentGains (mid .settings)) (mid .settings .v) current
-      (size.v-lo mid mid-sound) (within-hi (negℤ (mid .settings .v)) (mid .settings .v) x i) h)
+      (fact.leaves-top x e (currentGains (mid .settings)) (mid .settings .v) current (size.v-lo mid mid-sound)
+      (within-hi (negℤ (mid .settings .v)) (mid .settings .v) x i) h)
 
   leaves-bottom : (x e : ℤ) → Inside (mid .settings .v) x → pos 4096 ≤ℤ (e *ℤ d .settings .ckp) → negℤ (d .settings .v) <ℤ out x e
   unfolding regulated currentGains
   leaves-bottom x e i h =
       subst (λ (v : ℤ). negℤ v <ℤ out x e) (ap (λ s. s .v) (turned-settings d count))
-      (fact.leaves-bottom x e (currentGains (mid .settings))
-      (mid .settings .v) current (size.v-lo mid mid-sound) (within-lo (negℤ (mid .settings .v)) (mid .settings .v) x i)
+      (fact.leaves-bottom x e (currentGains (mid .settings)) (mid .settings .v) current (size.v-lo mid mid-sound)
+      (within-lo (negℤ (mid .settings .v)) (mid .settings .v) x i)
       (subst (λ (k : ℤ). pos 4096 ≤ℤ (e *ℤ k)) (ap (λ s. s .ckp) (sym (turned-settings d count))) h))
 
   -- the speed regulator, which runs in a tick and gives the torque reference
@@ -161,11 +161,13 @@ module _ (d : Drive) (ia ib count : ℤ) (ok : stepped d ia ib count .number ≡
     speed-top = λ t e.
         subst (λ (o : ℤ). o <ℤ d .settings .q) (sym (ap (λ c. c .torque) (new-command true t)))
         (fact.leaves-top (d .integrals .speed) _ (speedGains (d .settings)) (d .settings .q) speed (size.q-lo d met)
-        (within-hi (negℤ (d .settings .q)) (d .settings .q) (d .integrals .speed) (met .integrals .speed)) (subst (λ (k : ℤ). k <ℤ pos 0) (error-is t) e));
+        (within-hi (negℤ (d .settings .q)) (d .settings .q) (d .integrals .speed) (met .integrals .speed))
+        (subst (λ (k : ℤ). k <ℤ pos 0) (error-is t) e));
     speed-bottom = λ t e.
         subst (λ (o : ℤ). negℤ (d .settings .q) <ℤ o) (sym (ap (λ c. c .torque) (new-command true t)))
-        (fact.leaves-bottom (d .integrals .speed) _ (speedGains (d .settings)) (d .settings .q) speed (size.q-lo d met) (within-lo (negℤ (d .settings .q))
-        (d .settings .q) (d .integrals .speed) (met .integrals .speed)) (subst (λ (k : ℤ). pos 4096 ≤ℤ (k *ℤ d .settings .skp)) (error-is t) e));
+        (fact.leaves-bottom (d .integrals .speed) _ (speedGains (d .settings)) (d .settings .q) speed (size.q-lo d met)
+        (within-lo (negℤ (d .settings .q)) (d .settings .q) (d .integrals .speed) (met .integrals .speed))
+        (subst (λ (k : ℤ). pos 4096 ≤ℤ (k *ℤ d .settings .skp)) (error-is t) e));
   }
 
   -- ════ the pulses
@@ -197,8 +199,9 @@ module _ (d : Drive) (ia ib count : ℤ) (ok : stepped d ia ib count .number ≡
       let z = issued-size in
       record {
         voltage = voltage-is;
-        alpha-size = subst (λ (v : Stator). natAbs (v .alpha) ≤ 8192)
-            (sym voltage-is) (back-alpha-size 4096 4096 (sineAt a) (cosineAt a) (sine-size a) (cosine-size a) i (z .0) (z .1));
+        alpha-size =
+            subst (λ (v : Stator). natAbs (v .alpha) ≤ 8192) (sym voltage-is)
+            (back-alpha-size 4096 4096 (sineAt a) (cosineAt a) (sine-size a) (cosine-size a) i (z .0) (z .1));
         beta-size =
             subst (λ (v : Stator). natAbs (v .beta) ≤ 8192) (sym voltage-is)
             (back-beta-size 4096 4096 (sineAt a) (cosineAt a) (sine-size a) (cosine-size a) i (z .0) (z .1));

@@ -9,9 +9,9 @@ use borrow.Fn.Kinds.{PK, RK, Dens, resT, endedOf, In, Out}
 use denote.Triple.Clauses.{AtExit}
 use Rattle.promises.specs.Settled.{Settled, CheckSettled, FreshSettled, MakeSettled, NumberSettled, StepSettled, TargetSettled, ClearSettled, RunSettled}
 
-settled : {n : ℕ} {ps : List (PK n)} {r : RK n} {asks : In n ps} {ensures : Out n ps r} {B : Type 0} {outcome : (κs : Lfts n)
-    → resT r κs .Denot → AtExit (endedOf n ps r) κs → B}
-    {definition : (κs : Lfts n) → Dens κs ps → B} → ((κs : Lfts n) (a : Dens κs ps) → asks κs a)
+settled : {n : ℕ} {ps : List (PK n)} {r : RK n} {asks : In n ps} {ensures : Out n ps r} {B : Type 0}
+    {outcome : (κs : Lfts n) → resT r κs .Denot → AtExit (endedOf n ps r) κs → B} {definition : (κs : Lfts n) → Dens κs ps → B}
+    → ((κs : Lfts n) (a : Dens κs ps) → asks κs a)
     → ((κs : Lfts n) (a : Dens κs ps) (u : resT r κs .Denot) (x : AtExit (endedOf n ps r) κs) → ensures κs a u x ↔ (outcome κs u x ≡ definition κs a))
     → Settled n ps r asks ensures outcome definition
 settled p e = record { asks-nothing = p; as-defined = e; no-second = λ κs a u v x y l m. e κs a u x .0 l ∙ sym (e κs a v y .0 m) }

@@ -91,14 +91,9 @@ module _ (d : Drive) (h : Sound d) where
       let ticks : ℕ = countOf (λ i. isTick (ranOf d samples i .drive) (rowAt d samples i)) (rowsIn samples) in
       let Q : Bool → Run → Type 0 = λ f r. Window d (r .0 .drive) (cond f ticks 0) (r .0 .accepted) in
       let fit = rowsFit (length samples) (length out) in
-      holds (run-climbs d samples out) (Q fit) (
-        λ b. intact b,
-        λ b. (
-          λ f. subst (λ f. Q f (noRows d (pos 9), out)) (sym f) still,
-          λ f.
-              subst (λ f. Q f (allRun d samples out)) (sym f) (rows-window d samples (rowsIn samples) h),
-        ),
-      )
+      let rows = rows-window d samples (rowsIn samples) h in
+      holds (run-climbs d samples out) (Q fit)
+      (λ b. intact b, λ b. (λ f. subst (λ f. Q f (noRows d (pos 9), out)) (sym f) still, λ f. subst (λ f. Q f (allRun d samples out)) (sym f) rows))
 
   -- a clear that is not accepted leaves the drive
   uncleared : clears d clearing ≡ false → cleared d .drive ≡ d
@@ -109,8 +104,9 @@ module _ (d : Drive) (h : Sound d) where
   -- one that is accepted makes a fresh drive, whose window is empty
   emptied : clears d clearing ≡ true → inWindow (cleared d .drive) ≡ 0
   unfolding clears fresh
-  emptied = holds (clear-climbs d) (λ a. within (pos 0) (pos 0) (a .number) ≡ true
-      → inWindow (a .drive) ≡ 0) (λ b e. absurd (false≢true e), λ b. (λ t e. absurd (false≢true e), λ t e. refl))
+  emptied =
+      holds (clear-climbs d) (λ a. within (pos 0) (pos 0) (a .number) ≡ true → inWindow (a .drive) ≡ 0)
+      (λ b e. absurd (false≢true e), λ b. (λ t e. absurd (false≢true e), λ t e. refl))
 
   call-window : (c : Call) → clears d c ≡ false → Window d (afterCall d c) (ticksIn d c) (stepsIn d c)
   unfolding afterCall ticksIn stepsIn withTarget
@@ -139,11 +135,12 @@ unfolding afterCalls since
 since-window d [] ticks steps h e = e
 since-window d (c ∷ cs) ticks steps h e = by (clears d c) refl (λ m n k. since-window (afterCall d c) cs m n (after-sound d c h) k)
   where
-    by : (b : Bool) → clears d c ≡ b
-        → ((m n : ℕ) → inWindow (afterCall d c) + 30 * m ≡ n
-        → inWindow (afterCalls (afterCall d c) cs) + 30 * since ticksIn m (afterCall d c) cs ≡ since stepsIn n (afterCall d c) cs)
-        → inWindow (afterCalls (afterCall d c) cs) + 30 * since ticksIn
-        (cond b 0 (ticks + ticksIn d c)) (afterCall d c) cs ≡ since stepsIn (cond b 0 (steps + stepsIn d c)) (afterCall d c) cs
+    -- what is to be shown of the calls behind c, from m ticks and n steps on
+    Behind : ℕ → ℕ → Type 0
+    Behind m n = inWindow (afterCalls (afterCall d c) cs) + 30 * since ticksIn m (afterCall d c) cs ≡ since stepsIn n (afterCall d c) cs
+
+    by : (b : Bool) → clears d c ≡ b → ((m n : ℕ) → inWindow (afterCall d c) + 30 * m ≡ n → Behind m n)
+        → Behind (cond b 0 (ticks + ticksIn d c)) (cond b 0 (steps + stepsIn d c))
     by true t next = next 0 0 (omega (arith, cleared-window d h c t))
     by false t next = next (ticks + ticksIn d c) (steps + stepsIn d c) (omega (arith, e, call-window d h c t))
 

@@ -52,8 +52,9 @@ current-lawful s i = lawful (currentGains s) (i .current)
 -- ════ rules 1 and 2
 ramped-inside : (d : Drive) (n : ℤ) → Sound d → Inside (pos targetEnd) (rampedBy d n .reference)
 unfolding rampedBy
-ramped-inside d n h = ramped-in targetEnd (d .command .reference)
-    (d .command .target) (d .settings .r) (in-up range.r (d .settings .r) (h .settings .r)) (h .command .reference) (h .command .target)
+ramped-inside d n h =
+    ramped-in targetEnd (d .command .reference) (d .command .target) (d .settings .r) (in-up range.r (d .settings .r) (h .settings .r))
+    (h .command .reference) (h .command .target)
 
 pub ramped-size : (d : Drive) (n : ℤ) → Sound d → natAbs (rampedBy d n .reference) ≤ targetEnd
 ramped-size d n h = within-abs targetEnd (rampedBy d n .reference) (ramped-inside d n h)
@@ -144,5 +145,5 @@ pub advanced-sound : (d : Drive) (ia ib count : ℤ) → Sound d → sampleOk ia
 unfolding advanced
 advanced-sound d ia ib count h e =
     let a = d .field .angle in
-    rules-3-to-9-sound (rules1And2 d count) ia ib (sineAt a)
-    (cosineAt a) (rules-1-and-2-sound d count h (size.samples→ ia ib count e .3)) (size.samples ia ib count e) (sine-cosine-sized a)
+    rules-3-to-9-sound (rules1And2 d count) ia ib (sineAt a) (cosineAt a)
+    (rules-1-and-2-sound d count h (size.samples→ ia ib count e .3)) (size.samples ia ib count e) (sine-cosine-sized a)

@@ -64,8 +64,8 @@ module _ {s : Stream} {chunk : List ℕ} {at : ℕ} {o out : List ℕ} {cur : St
       let b = is-good ∙ y in
       let c = eqb-true (l .count) 3 (and-right (not (l .bad)) _ (and-right ended _ y)) in
       let n : take (l .count) ns ≡ ns = take-all (l .count) ns (omega (arith, part-wide, c)) in
-      let f : lineDue (tallyOf (cur .tally) (take (l .count) ns)) ns ≡ asFed
-      (record { tally = t; line = start; row = ns; begun = false; stopped = cur .stopped }) = rw (n, et, es, g) refl in
+      let due : Stream = record { tally = t; line = start; row = ns; begun = false; stopped = cur .stopped } in
+      let f : lineDue (tallyOf (cur .tally) (take (l .count) ns)) ns ≡ asFed due = rw (n, et, es, g) refl in
       record {
         is-sound = rw et (row-sound (cur .tally .drive) ns 0 (u .is-sound));
         wide = part-wide;

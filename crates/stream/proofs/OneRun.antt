@@ -76,8 +76,7 @@ unfolding tallyOf
 held-more t row h =
     record {
       rows = omega arith;
-      accepted = held-if (isAccepted (stepOf t row))
-          (t .accepted) (h .accepted);
+      accepted = held-if (isAccepted (stepOf t row)) (t .accepted) (h .accepted);
       clipped = held-if (isClipped (stepOf t row)) (t .clipped) (h .clipped);
     }
 
@@ -114,14 +113,14 @@ fours-more s l = refl
 
 -- ════ all the rows
 module _ (t : Tally) (row : List ℤ) (rows : List (List ℤ)) (l : length row ≡ 3) where
-  ran-more : ranOf (t .drive) (row ++ joined rows) (1 + length rows) ≡ joinedRuns
-      (afterRow (noRows (t .drive) (pos 0)) (stepOf t row)) (ranOf (tallyOf t row .drive) (joined rows) (length rows))
+  ran-more : ranOf (t .drive) (row ++ joined rows) (1 + length rows)
+      ≡ joinedRuns (afterRow (noRows (t .drive) (pos 0)) (stepOf t row)) (ranOf (tallyOf t row .drive) (joined rows) (length rows))
   ran-more =
       ran-in-pieces row (joined rows) 1 l (t .drive) (length rows)
       ∙ ap₂ (λ (x : Ran) (y : Drive). joinedRuns x (ranOf y (joined rows) (length rows))) (one-ran t row .0) (one-ran t row .1)
 
-  written-more : writtenOf (t .drive) (row ++ joined rows) (1 + length rows) ≡ four
-      (stepOf t row) ++ writtenOf (tallyOf t row .drive) (joined rows) (length rows)
+  written-more : writtenOf (t .drive) (row ++ joined rows) (1 + length rows)
+      ≡ four (stepOf t row) ++ writtenOf (tallyOf t row .drive) (joined rows) (length rows)
   written-more =
       written-in-pieces row (joined rows) 1 l (t .drive) (length rows)
       ∙ ap₂ (λ (x : List ℤ) (y : Drive). x ++ writtenOf y (joined rows) (length rows)) (one-ran t row .2) (one-ran t row .1)

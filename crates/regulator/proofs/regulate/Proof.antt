@@ -63,12 +63,14 @@ taken-reads : (c : tie.After-struct-told3) → Reads (m64 (over (c .before .befo
 taken-reads c = times (stored w64 (over-reads (c .before .before .before .before)) tt) (stored w64 (local w32 (start c .pre .kcor-size) tt) tt)
 
 -- what is rounded for x'
-sum-reads : (c : tie.After-struct-told3) → Reads (m64 (c .before .before .times .result) +ℤ m64 (m64 (over (c .before .before .before .before)) *ℤ m64
-    (m32 (start c .args .g .kcor)))) (start c .args .e *ℤ start c .args .g .ki +ℤ (out-at (start c) -ℤ sum-at (start c)) *ℤ start c .args .g .kcor) 2214457345
+sum-reads : (c : tie.After-struct-told3)
+    → Reads (m64 (c .before .before .times .result) +ℤ m64 (m64 (over (c .before .before .before .before)) *ℤ m64 (m32 (start c .args .g .kcor))))
+    (start c .args .e *ℤ start c .args .g .ki +ℤ (out-at (start c) -ℤ sum-at (start c)) *ℤ start c .args .g .kcor) 2214457345
 sum-reads c =
     let s = start c in
-    plus (stored w64 (multiplied (c .before .before .times .ensures)
-    (sized (s .fits .e) (s .pre .e-size)) (local w32 {x = s .args .g .ki} (s .pre .ki-size) tt)) tt) (stored w64 (taken-reads c) tt)
+    let e-reads = sized (s .fits .e) (s .pre .e-size) in
+    let ki-reads = local w32 {x = s .args .g .ki} (s .pre .ki-size) tt in
+    plus (stored w64 (multiplied (c .before .before .times .ensures) e-reads ki-reads) tt) (stored w64 (taken-reads c) tt)
 
 next-reads : (c : tie.After-down) → Reads (m64 (m32 (start (c .before) .args .x)) +ℤ m64 (c .down .result)) (next-at (start (c .before))) 548831
 unfolding nextOf

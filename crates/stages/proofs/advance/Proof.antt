@@ -7,6 +7,7 @@ use Rattle.fixed.proofs.Equal.{ap₄}
 use Rattle.fixed.proofs.Ranges.{in-lo, in-hi}
 use Rattle.field.specs.Field.{angles}
 use Rattle.fixed.proofs.Reading.{Reads, m32, word, result, stored, bound}
+use Rattle.frames.specs.declared.Rotor.{Rotor}
 use Rattle.sine.specs.Sine.{sineAt, cosineAt, Angle}
 use Rattle.sine.proofs.Rule.{sine-in-is, cosine-in-is, sine-size, cosine-size}
 use Rattle.shaft.specs.Shaft.{Count}
@@ -40,9 +41,10 @@ after-rules-1-and-2 c =
     let s = c .before .before .before .before in
     c .rules-1-and-2 .ensures ∙ ap (rules1And2 (s .args .d)) (word (s .fits .count) .is)
 
-currents-are : (c : tie.After-currents) → c .currents .result ≡ currents (c .before .before .before .before .before .args .ia)
-    (c .before .before .before .before .before .args .ib) (sineAt (c .before .before .before .before .before .args .d .field .angle))
-    (cosineAt (c .before .before .before .before .before .args .d .field .angle))
+abbrev seen : tie.Start → Rotor
+seen s = currents (s .args .ia) (s .args .ib) (sineAt (s .args .d .field .angle)) (cosineAt (s .args .d .field .angle))
+
+currents-are : (c : tie.After-currents) → c .currents .result ≡ seen (c .before .before .before .before .before)
 currents-are c =
     let k = c .before .before in
     let s = k .before .before .before in
@@ -82,8 +84,8 @@ rules-6-to-9-requires c κs =
     let d = s .args .d in
     let a = d .field .angle in
     let h = size.samples→ (s .args .ia) (s .args .ib) (s .args .count) (s .pre .1) in
-    let z = currents-size (s .args .ia) (s .args .ib) (sineAt a)
-    (cosineAt a) (size.samples (s .args .ia) (s .args .ib) (s .args .count) (s .pre .1)) (sine-cosine-sized a) in (
+    let taken = size.samples (s .args .ia) (s .args .ib) (s .args .count) (s .pre .1) in
+    let z = currents-size (s .args .ia) (s .args .ib) (sineAt a) (cosineAt a) taken (sine-cosine-sized a) in (
       rw (after-rules-1-and-2 (c .before), currents-are c) (record {
         is-sound = sound← (rules1And2 d (s .args .count)) (rules-1-and-2-sound d (s .args .count) (is-sound s) (h .3));
         d-size = z .0;

@@ -41,16 +41,16 @@ alpha c =
     let s = c .before .before .before in
     let h = asked-size (s .args .d) (s .args .i) (is-sound s) in
     stored w32 (result (ap (λ (v : Stator). v .alpha) (volts-are c))
-    (back-alpha-size 4096 4096 (s .args .sin) (s .args .cos)
-    (s .pre .1 .sin-size) (s .pre .1 .cos-size) (voltageFor (s .args .d) (s .args .i) .asked) (h .0) (h .1))) tt
+    (back-alpha-size 4096 4096 (s .args .sin) (s .args .cos) (s .pre .1 .sin-size) (s .pre .1 .cos-size)
+    (voltageFor (s .args .d) (s .args .i) .asked) (h .0) (h .1))) tt
 
 beta : (c : tie.After-inverse-park) → Reads (m32 (c .inverse-park .result .beta)) (volts (c .before .before .before) .beta) 8192
 beta c =
     let s = c .before .before .before in
     let h = asked-size (s .args .d) (s .args .i) (is-sound s) in
     stored w32 (result (ap (λ (v : Stator). v .beta) (volts-are c))
-    (back-beta-size 4096 4096 (s .args .sin) (s .args .cos) (s .pre .1 .sin-size)
-    (s .pre .1 .cos-size) (voltageFor (s .args .d) (s .args .i) .asked) (h .0) (h .1))) tt
+    (back-beta-size 4096 4096 (s .args .sin) (s .args .cos) (s .pre .1 .sin-size) (s .pre .1 .cos-size)
+    (voltageFor (s .args .d) (s .args .i) .asked) (h .0) (h .1))) tt
 
 returns : tie.Need-returns
 unfolding rules6To9 outcome withField
