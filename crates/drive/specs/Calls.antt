@@ -1,4 +1,4 @@
--- The public calls, each an equation for every record and every number (document 01, "Numbers handed back"). A call is its table, the rows in their
+-- The public calls, each an equation for every record and every number (docs/RULES.md, "Numbers handed back"). A call is its table, the rows in their
 -- order of precedence, each with test, number and effect; and what is answered where none applies, which has number 0. A new number is a new row.
 use mathlib.Core.Bool.{true, false}
 use mathlib.Core.List.{List, [], _∷_}
@@ -38,7 +38,7 @@ makeTable s = answeredBy Refused (refusals s)
 unfoldable pub made : Settings → Made
 made s = answerOf (makeTable s) (Ready (fresh s))
 
--- 01's number of each case
+-- the number of each case
 abbrev pub madeNumber : Made → ℤ
 madeNumber (Ready d) = pos 0
 madeNumber (Refused n) = n

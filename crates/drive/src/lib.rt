@@ -1,5 +1,5 @@
-// The calls that people use. Every one takes any words at all and answers with document 01's number; a step that nothing refuses goes
-// through the stages.
+// The calls that people use, `make`, `step`, `target` and `clear`: each takes any words at all and answers with a number of docs/RULES.md. A step
+// that nothing refuses goes through the stages. `step_sound` serves run and stream, which test the record once for many steps.
 ghost use mathlib.Core.Path.{_≡_};
 ghost use mathlib.Core.Bool.{true};
 ghost use Rattle.sine.specs.Sine.{sineTable};

@@ -1,4 +1,4 @@
--- The drive record, and when it is broken (document 01, "Numbers handed back").
+-- The drive record, and when it is broken (docs/RULES.md, "The drive record").
 use mathlib.Core.Bool.{Bool, not, _&&_}
 use Prim.Native.Nat.{ℕ}
 use lib.IntN.{pos}

@@ -1,4 +1,4 @@
--- The flux model (document 01, rule 6).
+-- The flux model (docs/RULES.md, rule 6).
 use Prim.Native.Nat.{ℕ, _≤_}
 use mathlib.Core.Bool.{Bool, cond, _&&_}
 use lib.IntN.{ℤ, pos, negℤ, natAbs, _+ℤ_, _-ℤ_, _*ℤ_}

@@ -1,4 +1,4 @@
--- From phase currents to the rotor's frame and back (document 01, rules 3, 5 and 8).
+-- From phase currents to the rotor's frame and back (docs/RULES.md, rules 3, 5 and 8).
 use Prim.Native.Nat.{ℕ, _+_, _≤_}
 use lib.IntN.{ℤ, pos, natAbs, _+ℤ_, _-ℤ_, _*ℤ_}
 use Rattle.fixed.specs.Fixed.{down}

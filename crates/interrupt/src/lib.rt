@@ -10,7 +10,7 @@ use drive_record::Drive;
 use settings::Settings;
 use stages::Stepped;
 
-// What a step answers: the compares of the phases a, b and c, document 01's number, whether the voltage was more than the period
+// What a step answers: the compares of the phases a, b and c, the rules' number, whether the voltage was more than the period
 // holds, and the voltage that was modulated.
 #[repr(C)]
 pub struct Output {

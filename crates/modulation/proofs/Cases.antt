@@ -1,4 +1,4 @@
--- The clipped case of document 01, (4096, 4096) at T 600, computed from the definition itself.
+-- The clipped case of docs/RULES.md, (4096, 4096) at T 600, computed from the definition itself.
 -- Assumes nothing.
 use mathlib.Core.Path.{_≡_, refl}
 use mathlib.Core.Bool.{true}

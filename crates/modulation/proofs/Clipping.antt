@@ -1,5 +1,5 @@
 -- The clipping rule, behind two laws: what it leaves has room in the period (`cut-room`), and it marks the times as clipped
--- (`cut-marked`). Nothing else looks into `cut` but the proof of the code that does it and the clipped case of document 01, which is
+-- (`cut-marked`). Nothing else looks into `cut` but the proof of the code that does it and the clipped case of docs/RULES.md, which is
 -- computed: under another rule these are shown anew, and every theorem stays.
 -- From the two, of every step: its times have room (`clipped-room`), and not clipped they are the times asked for (`kept`).
 -- Assumes nothing.

@@ -1,4 +1,4 @@
--- Space-vector modulation, as document 01 has it under "Modulation": from a voltage (vα, vβ) and a period T to three compares.
+-- Space-vector modulation, as docs/RULES.md, "Modulation", has it: from a voltage (vα, vβ) and a period T to three compares.
 use Prim.Native.Nat.{ℕ, zero, suc, _+_, _≤_, _<_}
 use mathlib.Core.Bool.{true, false, cond}
 use mathlib.Core.List.{List, [], _∷_}
@@ -42,7 +42,7 @@ sectorNumber e = bit (e .x) 1 + bit (negℤ (e .z)) 2 + bit (negℤ (e .y)) 4
 abbrev pub sector : ℤ → ℤ → ℕ → ℕ → ℕ → Sector
 sector t1 t2 a b c = record { t1 = t1; t2 = t2; a = a; b = b; c = c }
 
--- the order in which the phases go on, as 01's last column has it
+-- the order in which the phases go on, as the table's last column has it
 abbrev pub a·b·c : ℤ → ℤ → Sector
 a·b·c t1 t2 = sector t1 t2 0 1 2
 

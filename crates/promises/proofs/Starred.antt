@@ -1,4 +1,4 @@
--- The eleven starred cases of document 01, one list under one claim, of the definitions themselves: the checker computes each.
+-- The eleven starred cases of docs/RULES.md, one list under one claim, of the definitions themselves: the checker computes each.
 -- Assumes nothing.
 use mathlib.Core.Path.{refl}
 use Rattle.fixed.specs.Fixed.{down, modulo, held}

@@ -1,4 +1,4 @@
--- Demand 1: bad settings, records, samples, targets and lists are refused with 01's numbers, each exactly when its table says, with the effect
+-- Demand 1: bad settings, records, samples, targets and lists are refused with the rules' numbers, each exactly when its table says, with the effect
 -- that it says. The tables stand beside the calls: settings/specs/Settings `refusals`, drive/specs/Calls, rows/specs/Rows; what `Exactly` says of one is
 -- in fixed/specs/Ladder.
 use mathlib.Core.Path.{_≡_}

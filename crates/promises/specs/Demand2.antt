@@ -1,4 +1,4 @@
--- Demand 2: each accepted step is 01's rules; a run is its steps, row by row; and through any list of calls no record is broken.
+-- Demand 2: each accepted step is by the rules; a run is its steps, row by row; and through any list of calls no record is broken.
 use mathlib.Core.Path.{_≡_}
 use mathlib.Core.Bool.{true, false}
 use mathlib.Core.List.{List, [], _++_}

@@ -1,4 +1,4 @@
--- No promise is empty: the hypotheses of each are met together, by 01's bench set from fresh and by drives with it.
+-- No promise is empty: the hypotheses of each are met together, by the bench set from fresh and by drives with it.
 use mathlib.Core.Path.{_≡_}
 use mathlib.Core.Bool.{true, false}
 use mathlib.Core.List.{List, [], _∷_}

@@ -1,4 +1,5 @@
--- 01's starred cases as a list: what the definitions give, beside what 01 writes. Eleven cases; the flux case has two halves.
+-- The starred cases of docs/RULES.md, "Cases to hold a drive to", as a list: what the definitions give, beside what stands there. Eleven
+-- cases; the flux case has two halves.
 use mathlib.Core.Path.{_≡_}
 use mathlib.Core.List.{List, [], _∷_}
 use lib.IntN.{ℤ, pos, negsuc}
@@ -19,7 +20,7 @@ infix 2 _gives_
 abbrev pub _gives_ : List ℤ → List ℤ → Case
 got gives wanted = record { got = got; wanted = wanted }
 
--- the words of an answer, as 01 lists them
+-- the words of an answer, as the cases list them
 abbrev pub number : ℤ → List ℤ
 number z = z ∷ []
 

@@ -1,4 +1,4 @@
--- The regulator (document 01, "Regulator"): one rule, which serves speed, d and q.
+-- The regulator (docs/RULES.md, "Regulator"): one rule, which serves speed, d and q.
 use Prim.Native.Nat.{ℕ, _≤_}
 use mathlib.Core.Path.{_≡_}
 use lib.IntN.{ℤ, pos, negℤ, natAbs, _+ℤ_, _-ℤ_, _*ℤ_}

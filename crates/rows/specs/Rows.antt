@@ -1,4 +1,4 @@
--- The run (document 01, "Rows and the program"): row by row, each row as one step gives it.
+-- The run (docs/RULES.md, "Run"): row by row, each row as one step gives it.
 use Prim.Native.Nat.{ℕ, zero, suc, _+_, _*_, _/_, _%_}
 use mathlib.Core.Bool.{Bool, cond, _&&_}
 use mathlib.Core.List.{List, [], _∷_, _++_}

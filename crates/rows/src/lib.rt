@@ -1,4 +1,4 @@
-// The run: rows of samples, each one step. It takes any record, any samples and any output, and answers with document 01's number.
+// The run: rows of samples, each one step. It takes any record, any samples and any output, and answers with a number of docs/RULES.md.
 ghost use mathlib.Core.Path.{_≡_};
 ghost use mathlib.Core.Bool.{true};
 ghost use mathlib.Core.List.{_++_};

@@ -1,4 +1,4 @@
--- 01's bench set.
+-- The bench set (docs/RULES.md, "Settings").
 use lib.IntN.{ℤ, pos}
 use Rattle.settings.specs.declared.Settings.{Settings}
 

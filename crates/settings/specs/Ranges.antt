@@ -1,4 +1,4 @@
--- Each setting's range (document 01, "Settings"): the one place in specs and proofs that has its ends.
+-- Each setting's range (docs/RULES.md, "Settings"): the one place in specs and proofs that has its ends.
 use Rattle.fixed.specs.Fixed.{Range}
 
 -- T 100..4000

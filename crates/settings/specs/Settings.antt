@@ -1,4 +1,4 @@
--- The settings, and when they are refused (document 01, "Settings" and numbers 1 to 5 of "Numbers handed back").
+-- The settings, and when they are refused (docs/RULES.md, "Settings", and numbers 1 to 5 of "Numbers handed back").
 use mathlib.Core.Bool.{Bool, _&&_}
 use mathlib.Core.List.{List, [], _∷_}
 use lib.IntN.{ℤ, pos, _*ℤ_}
@@ -59,7 +59,7 @@ refusal s = pos (firstOf (refusals s))
 unfoldable pub accepted : Settings → Bool
 accepted s = allPass (refusals s)
 
--- 01's number of each case
+-- the number of each case
 abbrev pub checkedNumber : Checked → ℤ
 checkedNumber (Accepted s) = pos 0
 checkedNumber (Refused n) = n

@@ -45,7 +45,7 @@ pub struct Settings {
     pub r: i32,
 }
 
-// 01's bench set, with which its program runs.
+// The bench set, with which `run_rows` runs.
 pub fn bench_settings() -> Settings
     ensures { λ r. ⌜ r ≡ benchSettings ⌝ }
 {

@@ -1,4 +1,4 @@
--- Encoder, window, speed, ramp and field weakening: rules 1 and 2 of document 01, but for the speed regulator.
+-- Encoder, window, speed, ramp and field weakening: rules 1 and 2 of docs/RULES.md, but for the speed regulator.
 use Prim.Native.Nat.{ℕ, zero, suc, _*_, _≤_}
 use mathlib.Core.Path.{_≡_}
 use mathlib.Core.Bool.{Bool, true, false, cond, _&&_}

@@ -1,4 +1,4 @@
-// Encoder, window, speed, ramp and field weakening: rules 1 and 2 of document 01, but for the speed regulator.
+// Encoder, window, speed, ramp and field weakening: rules 1 and 2 of docs/RULES.md, but for the speed regulator.
 ghost use mathlib.Core.Path.{_≡_};
 ghost use Prim.Native.Nat.{_≤_};
 ghost use lib.IntN.{pos, natAbs};

@@ -1,4 +1,4 @@
--- The sine table and its two readings (document 01, rule 4 and "Sine table"). The logic has no π: the table is built by halving an angle
+-- The sine table and its two readings (docs/RULES.md, rule 4 and "Sine table"). The logic has no π: the table is built by halving an angle
 -- at the scale S = 2^40 and turning step by step, all whole numbers, all rounded down.
 use Prim.Native.Nat.{ℕ, zero, suc, _+_, _*_, _-_, _/_, _%_, _^_}
 use mathlib.Core.Bool.{cond}

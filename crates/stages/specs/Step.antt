@@ -1,4 +1,4 @@
--- One accepted step (document 01, "One accepted step, in order"): rules 1 to 9, each from the crate that owns it.
+-- One accepted step (docs/RULES.md, "One accepted step, in order"): rules 1 to 9, each from the crate that owns it.
 use Prim.Native.Nat.{ℕ, _+_, _≤_}
 use mathlib.Core.Path.{_≡_}
 use mathlib.Core.Bool.{Bool, true, cond, _&&_}

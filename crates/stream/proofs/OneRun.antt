@@ -5,7 +5,7 @@ use mathlib.Core.Path.{_≡_, refl, sym, _∙_, ap, ap₂}
 use mathlib.Core.Bool.{Bool, true, false, cond}
 use mathlib.Core.List.{List, [], _∷_, _++_, append-nil}
 use mathlib.Core.Option.{Option, none, some}
-use Prim.Native.Nat.{ℕ, zero, suc, _+_, _*_, _/_, _%_, _≤_, _<_}
+use Prim.Native.Nat.{ℕ, zero, suc, _+_, _*_, _/_, _%_, _≤_}
 use native.Mathlib.Nat.{zero-add}
 use native.Mathlib.Omega.{arith}
 use borrow.Author.Tests.{eqb-true, eq-eqb, le-leb}
@@ -13,7 +13,6 @@ use lib.Dec.{eqb}
 use lib.IntN.{ℤ, pos}
 use lib.ListN.{length, replicate, length-append, length-replicate, drop-of-length-le}
 use Rattle.drive_record.specs.declared.Drive.{Drive}
-use Rattle.drive_record.specs.Record.{broken}
 use Rattle.stages.specs.declared.Stepped.{Stepped}
 use Rattle.rows.specs.declared.Ran.{Ran}
 use Rattle.rows.specs.Rows.{rowStepped, four, one, isAccepted, isClipped, noRows, afterRow, ranOf, writtenOf, rowsIn, rowsFit, runOf, outputAfter}
@@ -26,7 +25,8 @@ use Rattle.writing.specs.Decimal.{lineText}
 use Rattle.feeding.specs.Lines.{linesOf, ifFits, goodIn, goodThen, goodOf, goodLines, endsBad, afterAll, answersTo, heldCount, oneMore}
 use Rattle.feeding.specs.Feeding.{joined}
 use Rattle.stream.specs.declared.Tally.{Tally}
-use Rattle.stream.specs.Program.{isRow, tallyStart, stepOf, tallyOf, answerText, headerText, closingText, programText, foursText, ranTally, runText}
+use Rattle.stream.specs.Program.{isRow, tallyStart, stepOf, tallyOf, answerText, headerText, closingText, programText, foursText, ranTally}
+use Rattle.stream.specs.Promised.{AsOneRun, CountsExact}
 
 -- ════ rows of three numbers each
 pub data Threes : List (List ℤ) → Type 0 where
@@ -167,9 +167,7 @@ rows-fit samples out n s o = and-both (eq-eqb (samples % 3) 0 (omega (arith, s))
 with-first : (d : Drive) (r : Ran) (n : ℕ) → withRun (tallyStart d) r n ≡ ranTally r n
 with-first d r n = rw (zero-add n, zero-add (r .accepted), zero-add (r .clipped)) refl
 
--- one run of all the rows, from a drive that is not broken
-pub one-run : (d : Drive) (input : List ℕ) → broken d ≡ false
-    → programText d input ≡ headerText ++ runText d (joined (goodLines isRow input)) (endsBad isRow input)
+pub one-run : AsOneRun
 unfolding programText
 one-run d input b =
     let rows = goodLines isRow input in
@@ -218,12 +216,7 @@ lines-few p (b ∷ bs) = by (eqb b 10) (lines-few [] bs) (lines-few (p ++ (b ∷
     by true h k = omega arith
     by false h k = omega arith
 
--- of an input of fewer than 2^64 − 1 bytes no count is held, the number of a bad line included
-pub counts-exact : (d : Drive) (input : List ℕ) → length input < 18446744073709551615 →
-    let rows = goodLines isRow input in
-    let ran = ranOf d (joined rows) (length rows) in
-    (heldCount (length rows) ≡ length rows) × (oneMore (length rows) ≡ length rows + 1)
-    × (heldCount (ran .accepted) ≡ ran .accepted) × (heldCount (ran .clipped) ≡ ran .clipped)
+pub counts-exact : CountsExact
 counts-exact d input h =
     let rows = goodLines isRow input in
     let f = ran-few d (joined rows) (length rows) in

@@ -1,7 +1,6 @@
 -- The program, whatever chunks its input comes in, writes what `programText` says of the input as a whole (`program`).
 -- Assumes nothing.
 use mathlib.Core.Path.{_≡_, refl, _∙_, ap}
-use mathlib.Core.Bool.{true}
 use mathlib.Core.List.{List, [], _∷_, _++_, append-assoc, append-nil}
 use Prim.Native.Nat.{ℕ}
 use native.Mathlib.Omega.{arith}
@@ -16,6 +15,7 @@ use Rattle.feeding.proofs.Whole.{comes}
 use Rattle.stream.specs.declared.Tally.{Tally}
 use Rattle.stream.specs.Program.{isRow, tallyStart, tallyOf, answerText, headerText, programText}
 use Rattle.stream.specs.Streaming.{streamStart, rowsFed, rowsText, lastText, chunksText}
+use Rattle.stream.specs.Promised.{InWhateverChunks, UnreadChangesNothing}
 
 -- a row has room among three numbers
 pub three : Room isRow 3
@@ -39,12 +39,10 @@ program-onward d input =
     let c = comes isRow tallyOf answerText (tallyStart d) (pos 0 ∷ pos 0 ∷ pos 0 ∷ []) input three in
     rw (c .keeps, c .ends, c .writes) refl
 
--- header, the texts of the chunks fed one after the other, and the closing
-pub program : (d : Drive) (cs : List (List ℕ)) → headerText ++ chunksText (streamStart d) cs ≡ programText d (joined cs)
+pub program : InWhateverChunks
 program d cs = ap (λ (t : List ℕ). headerText ++ t) (chunks (streamStart d) cs) ∙ program-onward d (joined cs)
 
--- once it stopped, what is not read would change nothing
-pub unread : (d : Drive) (xs ys : List ℕ) → rowsFed (streamStart d) xs .stopped ≡ true → programText d (xs ++ ys) ≡ programText d xs
+pub unread : UnreadChangesNothing
 unread d xs ys h =
     let s = streamStart d in
     let n = rowsFed s xs in

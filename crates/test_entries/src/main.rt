@@ -1,4 +1,4 @@
-// Writes the sines that document 01 wants run: of the entries 0, 1, 16, 32, 63 and 64, and of the angle 255, which reads entry 0.
+// Writes the sines of the cases in docs/RULES.md: of the entries 0, 1, 16, 32, 63 and 64, and of the angle 255, which reads entry 0.
 // One number on a line of its own.
 fn show(v: i32) {
     let numbers = [v];

@@ -1,4 +1,4 @@
--- `settings::bench_settings` is 01's bench set.
+-- `settings::bench_settings` is the bench set.
 -- Assumes nothing.
 use mathlib.Core.Path.{refl}
 use Rattle.settings.specs.BenchSettings.{benchSettings}
