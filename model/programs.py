@@ -1,0 +1,170 @@
+"""What the small programs of the tree write, by the same calls on the model: one function for each program."""
+
+import os
+import re
+
+import drive
+
+ROOT = os.path.dirname(os.path.dirname(os.path.realpath(__file__)))
+
+
+def text_of(lines):
+    return ''.join(line + '\n' for line in lines).encode()
+
+
+# crates/test_entries
+
+def entries():
+    """The sine at seven angles, one a line."""
+    return text_of(str(drive.sine(angle)) for angle in (0, 256, 4096, 8192, 16128, 16384, 255))
+
+
+# crates/test_runs
+
+def runs():
+    """Eight runs, each with a line of the counts and the number and a line of the output's eight places, which all hold 7 before it."""
+    sound = drive.fresh(drive.BENCH)
+    tripped = {**sound, 'tripped': True}
+    broken = {**sound, 'angle': 65536}
+    samples = [0, 0, 0, 9000, 0, 0]
+    written = []
+    # the record, how many of the samples, and how many of the places are lent
+    for record, taken, lent in [(sound, 6, 8), (sound, 3, 8), (sound, 0, 0), (sound, 4, 8), (sound, 6, 7), (tripped, 6, 8), (broken, 6, 8), (broken, 4, 7)]:
+        places = [7] * 8
+        answer = drive.run(record, samples[:taken], places[:lent])
+        written.append('%d %d %d' % (answer.accepted, answer.clipped, answer.number))
+        written.append(' '.join(str(place) for place in answer.output + places[lent:]))
+    return text_of(written)
+
+
+# crates/measure_run
+
+def measured():
+    """The run over and over, as often as standard input has bytes, on the samples that stand in the program: how many steps the last one accepted, and of the
+    last row's four numbers whether each is above 300."""
+    with open(os.path.join(ROOT, 'crates/measure_run/src/main.rt'), encoding='utf-8') as file:
+        samples = [int(number) for number in re.findall(r'-?\d+', re.search(r'const SAMPLES: .*?= \[(.*?)\];', file.read(), re.S)[1])]
+    with open(os.path.join(ROOT, 'crates/measure_run/stdin'), 'rb') as file:
+        times = len(file.read())
+    record = drive.fresh(drive.BENCH)
+    for _ in range(times):
+        answer = drive.run(record, samples, [0] * 128)
+        record = answer.record
+    return text_of([str(answer.accepted)] + ['1' if 300 < number else '0' for number in answer.output[124:]])
+
+
+# examples/calls.c
+
+class Place:
+    """A record in place, as the C program has it, and the lines that are written about it. It starts zeroed."""
+
+    def __init__(self):
+        names = [setting.name for setting in drive.SETTINGS] + drive.WORDS
+        self.record = {name: False if name in drive.FLAGS else 0 for name in names}
+        self.lines = []
+
+    def write(self, line):
+        self.lines.append(line)
+
+    def start(self, settings):
+        number, made = drive.make(settings)
+        if number == 0:
+            self.record = made
+        return number
+
+    def step(self, ia, ib, count):
+        answer = drive.step(self.record, ia, ib, count)
+        self.record = answer.record
+        return answer
+
+    def row(self, ia, ib, count):
+        answer = self.step(ia, ib, count)
+        self.write('%d %d %d %d' % (*answer.compares, answer.number))
+        return answer
+
+    def voltage(self, answer):
+        self.write('voltage %d %d clipped %d' % (*answer.voltage, answer.clipped))
+
+    def target(self, wanted):
+        number, self.record = drive.target(self.record, wanted)
+        self.write('target %d' % number)
+
+    def clear(self):
+        number, self.record = drive.clear(self.record)
+        self.write('clear %d' % number)
+
+    def words(self):
+        for line in ('count %(count)d seen %(seen)d sum %(sum)d steps %(steps)d speed %(speed)d',
+                     'target %(target)d reference %(reference)d torque %(torque)d flux %(flux_reference)d',
+                     'field flux %(flux)d angle %(angle)d',
+                     'integrals %(speed_integral)d %(d_integral)d %(q_integral)d tripped %(tripped)d'):
+            self.write(line % self.record)
+
+
+def kept(is_kept):
+    return 'record as it was' if is_kept else 'record changed'
+
+
+def calls_rows(place):
+    place.voltage(place.row(0, 0, 0))
+    before = place.record
+    place.row(9000, 0, 0)
+    place.write('tripped %d' % place.record['tripped'])
+    place.write('but for the mark: ' + kept({**place.record, 'tripped': False} == before))
+    place.row(0, 0, 0)
+
+
+def calls_cleared(place):
+    place.target(100)
+    place.clear()
+    place.clear()
+    place.target(8192)
+    place.target(100)
+    place.write('in the record %d' % place.record['target'])
+    place.row(0, 0, 0)
+
+
+def calls_refused(place):
+    before = place.record
+    for wrong in ({'T': 99}, {'speed_Kp': 0}, {'speed_Ki': 129}, {'V': 0}, {'F': 409}):
+        number = place.start({**drive.BENCH, **wrong})
+        place.write('start %d, %s' % (number, kept(place.record == before)))
+
+
+def calls_broken(place):
+    place.record = {**place.record, 'angle': 65536}
+    place.row(0, 0, 0)
+    place.target(100)
+    place.clear()
+    calls_refused(place)
+    place.write('start %d' % place.start(drive.BENCH))
+    place.row(0, 0, 0)
+
+
+def calls_ticked(place):
+    distinct = {**drive.BENCH, 'T': 1000, 'current_Kp': 2048, 'current_Kcor': 512, 'V': 900, 'Kn': 63}
+    place.write('start %d' % place.start(distinct))
+    place.target(100)
+    for k in range(31):
+        place.step(1000, -300, 700 * k)
+    place.voltage(place.row(1000, -300, 700 * 31))
+    place.words()
+
+
+def calls():
+    """What examples/calls.c writes; its functions have the same names here, after calls_."""
+    place = Place()
+    place.row(0, 0, 0)
+    place.write('start %d' % place.start(drive.BENCH))
+    calls_rows(place)
+    calls_cleared(place)
+    calls_broken(place)
+    calls_ticked(place)
+    return text_of(place.lines)
+
+
+# examples/interrupt.c and examples/interrupt.rs, one program in two languages
+
+def interrupt():
+    """What both write. Not written yet: model/answers has no line for it either."""
+    raise NotImplementedError('examples/interrupt.out')

@@ -1,0 +1,163 @@
+"""Wrong rules, each to stand in the place of one rule of the model, so that the comparison itself can be tried: every one has to be noticed.
+
+Those that change little of a rule call the right one, which is kept under its own name here before any is replaced.
+"""
+
+import drive
+
+right_tick = drive.tick
+right_refusal = drive.refusal
+right_clear = drive.clear
+
+
+def towards_zero(number, divisor):
+    return number // divisor if number >= 0 else -(-number // divisor)
+
+
+def clarke_towards_zero(ia, ib):
+    return ia, towards_zero((2 * ib + ia) * 2365, 4096)
+
+
+def regulator_without_correction(error, integral, gains, limit):
+    kp, _, ki = gains
+    out = drive.held(integral + error * kp // 4096, -limit, limit)
+    return out, integral + error * ki // 4096
+
+
+def regulator_with_a_clamp(error, integral, gains, limit):
+    out, unclamped = regulator_without_correction(error, integral, gains, limit)
+    return out, drive.held(unclamped, -limit, limit)
+
+
+def regulator_rounded_twice(error, integral, gains, limit):
+    kp, kcor, ki = gains
+    u = integral + error * kp // 4096
+    out = drive.held(u, -limit, limit)
+    return out, integral + error * ki // 4096 + (out - u) * kcor // 4096
+
+
+def movement_of_half_a_turn_positive(seen, stored, count):
+    if not seen:
+        return 0
+    moved = (count - stored) % 65536
+    return moved - 65536 if moved > 32768 else moved
+
+
+def movement_before_a_count_is_seen(seen, stored, count):
+    return (count - stored + 32768) % 65536 - 32768
+
+
+def park_rounded_apart(alpha, beta, sin, cos):
+    return alpha * cos // 4096 + beta * sin // 4096, beta * cos // 4096 - alpha * sin // 4096
+
+
+def inverse_park_rounded_apart(vd, vq, sin, cos):
+    return vd * cos // 4096 - vq * sin // 4096, vq * cos // 4096 + vd * sin // 4096
+
+
+def accepted_step_with_the_new_angle(record, ia, ib, count):
+    is_tick_now = drive.is_tick(record['steps'])
+    record = drive.encoder(record, count)
+    if is_tick_now:
+        record = drive.tick(record)
+    alpha, beta = drive.clarke(ia, ib)
+    d, q = drive.park(alpha, beta, drive.sine(record['angle']), drive.cosine(record['angle']))
+    record = drive.flux_model(record, d, q)
+    vd, vq, record = drive.current_regulators(record, d, q)
+    # wrong from here on: the record has its new angle already
+    voltage = drive.inverse_park(vd, vq, drive.sine(record['angle']), drive.cosine(record['angle']))
+    compares, clipped = drive.modulation(record['T'], *voltage)
+    return drive.StepAnswer(0, compares, clipped, voltage, record)
+
+
+def flux_model_with_the_slip_of_the_old_flux(record, d, q):
+    flux = drive.flux_after(record['flux'], d, record['Kr'])
+    slip = drive.slip(record['flux'], q, record['Kt'])
+    return {**record, 'flux': flux, 'angle': drive.angle_after(record['angle'], record['speed'] + slip, record['Kth'])}
+
+
+def slip_from_42_on(flux, q, kt):
+    return 0 if flux < 42 else drive.held(kt * q // flux, -16383, 16383)
+
+
+def slip_towards_zero(flux, q, kt):
+    return 0 if flux < 41 else drive.held(towards_zero(kt * q, flux), -16383, 16383)
+
+
+def flux_towards_zero(flux, d, kr):
+    return flux + towards_zero(kr * (d - flux), 4096)
+
+
+def weakening_by_4095(speed, flux_up_to_base_speed):
+    if drive.within(speed, 4095):
+        return flux_up_to_base_speed
+    return flux_up_to_base_speed * 4095 // abs(speed)
+
+
+def tick_at_28(steps_before):
+    return steps_before == 28
+
+
+def tick_with_the_old_reference(record):
+    """The speed regulator still uses the reference of before the tick."""
+    reference = record['reference']
+    after = right_tick({**record, 'target': reference})
+    return {**after, 'target': record['target'], 'reference': drive.ramp(reference, record['target'], record['R'])}
+
+
+def step_number_with_6_first(record, ia, ib, count):
+    if drive.is_broken(record):
+        return 14
+    if drive.is_refused_sample(ia, ib, count):
+        return 6
+    return 7 if record['tripped'] else 0
+
+
+def sample_without_its_sum(ia, ib, count):
+    return not (drive.within(ia, 8191) and drive.within(ib, 8191) and 0 <= count <= 65535)
+
+
+def clip_not_marked_at_one_over(t1, t2, period):
+    used1 = min(t1, period)
+    return used1, min(t2, period - used1), t1 + t2 > period + 1
+
+
+def sine_of_the_nearest_entry(angle):
+    return drive.SINE_TABLE[(angle + 128) // 256 % 256]
+
+
+def refusal_without_the_gain_law(settings):
+    number = right_refusal(settings)
+    return 0 if number == 3 else number
+
+
+def clear_keeps_the_target(record):
+    number, after = right_clear(record)
+    return number, {**after, 'target': record['target']}
+
+
+# What is wrong, the rule that it replaces, and by what.
+WRONG_RULES = [
+    ('Clarke rounded towards zero', 'clarke', clarke_towards_zero),
+    ('(out - u) dropped from the integral', 'regulator', regulator_without_correction),
+    ('the integral held by a clamp', 'regulator', regulator_with_a_clamp),
+    ('the two products of the integral rounded apart', 'regulator', regulator_rounded_twice),
+    ('a movement of 32768 taken as positive', 'movement', movement_of_half_a_turn_positive),
+    ('a movement before a count was seen', 'movement', movement_before_a_count_is_seen),
+    ('the two products of Park rounded apart', 'park', park_rounded_apart),
+    ('the two products of inverse Park rounded apart', 'inverse_park', inverse_park_rounded_apart),
+    ('inverse Park with the new angle', 'accepted_step', accepted_step_with_the_new_angle),
+    ('slip of the old flux', 'flux_model', flux_model_with_the_slip_of_the_old_flux),
+    ('slip from flux 42 on', 'slip', slip_from_42_on),
+    ('slip rounded towards zero', 'slip', slip_towards_zero),
+    ('flux rounded towards zero', 'flux_after', flux_towards_zero),
+    ('weakening from 4096 on, by 4095', 'weakened_flux', weakening_by_4095),
+    ('a tick at 28 steps', 'is_tick', tick_at_28),
+    ('a tick with the old reference', 'tick', tick_with_the_old_reference),
+    ('7 after 6', 'step_number', step_number_with_6_first),
+    ('ia + ib not looked at', 'is_refused_sample', sample_without_its_sum),
+    ('clipping not marked at one count over', 'clip', clip_not_marked_at_one_over),
+    ('the sine of the nearest entry', 'sine', sine_of_the_nearest_entry),
+    ('the gain law not looked at', 'refusal', refusal_without_the_gain_law),
+    ('a clear that keeps the target', 'clear', clear_keeps_the_target),
+]
