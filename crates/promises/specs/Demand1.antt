@@ -22,7 +22,7 @@ use Rattle.drive.specs.Calls.{fresh, makeTable, made, madeNumber, stepTable, st
 use Rattle.rows.specs.declared.Ran.{Ran}
 use Rattle.rows.specs.Rows.{isAccepted, noRows, ranOf, writtenOf, rowsIn, runTable, runOf, outputAfter}
 
--- "Given exactly when" and "Effect", for each call: the settings' check and what they make, a step, a target, a clear
+-- the table of numbers, for each call: the settings' check and what they make, a step, a target, a clear
 abbrev pub CheckTable : Type 0
 CheckTable = (s : Settings) → Exactly checkedNumber (refusals s) (Accepted s) (checked s)
 
@@ -38,7 +38,7 @@ TargetTable = (d : Drive) (wanted : ℤ) → Exactly (λ a. a .number) (targetTa
 abbrev pub ClearTable : Type 0
 ClearTable = (d : Drive) → Exactly (λ a. a .number) (clearTable d) (answered (fresh (d .settings)) (pos 0)) (cleared d)
 
--- a run, with the numbers lent to it: "nothing written, state same, both counts 0", or what stands after the rows and what they write, the numbers
+-- a run, with the numbers lent to it: nothing written, the record as it was, both counts 0; or what stands after the rows and what they write, the numbers
 -- past their output as they were
 abbrev pub Run : Type 0
 Run = Ran × List ℤ
@@ -53,7 +53,7 @@ abbrev pub RunTable : Type 0
 RunTable = (d : Drive) (samples out : List ℤ) →
     Exactly (λ (r : Run). r .0 .number) (runTable d samples out (unrun d out)) (allRun d samples out) (runOf d samples out, outputAfter d samples out)
 
--- "Settings answer either a drive or a number, never both": accepted, the fresh drive, and of the check their own words; else the number that
+-- from settings either a drive or a number, never both: accepted, the fresh drive, and of the check their own words; else the number that
 -- refuses them, and no words
 pub record Either (s : Settings) : Type 0 where
   pub drive : accepted s ≡ true → made s ≡ Ready (fresh s)
@@ -69,7 +69,7 @@ pub record ZeroIfAccepted : Type 0 where
   pub settings : (s : Settings) → (accepted s ≡ true) ↔ (madeNumber (made s) ≡ pos 0)
   pub step : (s : Stepped) → (isAccepted s ≡ true) ↔ (s .number ≡ pos 0)
 
--- "Numbers 11 to 13 are kept free": no call gives them
+-- 11, 12 and 13 are free: no call gives them
 abbrev pub spare : ℤ → Bool
 spare number = within (pos 11) (pos 13) number
 

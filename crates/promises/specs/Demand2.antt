@@ -13,7 +13,7 @@ use Rattle.drive.specs.Calls.{stepped}
 use Rattle.rows.specs.Rows.{four, isAccepted, isClipped, noRows, ranOf, writtenOf, rowsIn, rowsFit, runOf, outputAfter}
 use Rattle.promises.specs.Histories.{Call, afterCalls, History, rowAt, countOf}
 
--- each accepted step gives precisely the state and the compares of "One accepted step, in order"
+-- each accepted step gives precisely the state and the compares of docs/RULES.md, "One accepted step, in order"
 abbrev pub StepByTheRules : Type 0
 StepByTheRules = (d : Drive) (ia ib count : ℤ) → stepped d ia ib count .number ≡ pos 0 → stepped d ia ib count ≡ advanced d ia ib count
 
@@ -25,7 +25,7 @@ pub record AtItsIndex (angle : ℤ) : Type 0 where
 abbrev pub SineByTheLadder : Type 0
 SineByTheLadder = (angle : ℤ) → Angle angle → AtItsIndex angle
 
--- "A run takes each row (ia, ib, count) as one step, writes three compares and the number, goes on after a trip"
+-- in a run each row is one step, in order; its three compares and its number are written; it goes on after a trip
 pub record RowByRow (d : Drive) (samples : List ℤ) : Type 0 where
   pub starts : ranOf d samples 0 .drive ≡ d
   pub goes-on : (i : ℕ) → ranOf d samples (suc i) .drive ≡ rowAt d samples i .drive
@@ -35,7 +35,7 @@ pub record RowByRow (d : Drive) (samples : List ℤ) : Type 0 where
 abbrev pub RunByRows : Type 0
 RunByRows = (d : Drive) (samples : List ℤ) → RowByRow d samples
 
--- "and returns the count of accepted steps and of clipped ones among them"; "Numbers past the rows' output stay"
+-- how many steps were accepted and how many of those were clipped; places past the rows' output stay as they are
 pub record AfterTheRows (d : Drive) (samples out : List ℤ) : Type 0 where
   pub drive : runOf d samples out .drive ≡ ranOf d samples (rowsIn samples) .drive
   pub output : outputAfter d samples out ≡ writtenOf d samples (rowsIn samples) ++ drop (4 * rowsIn samples) out
@@ -45,11 +45,11 @@ pub record AfterTheRows (d : Drive) (samples out : List ℤ) : Type 0 where
 abbrev pub RunAccepted : Type 0
 RunAccepted = (d : Drive) (samples out : List ℤ) → broken d ≡ false → rowsFit (length samples) (length out) ≡ true → AfterTheRows d samples out
 
--- "No rows is accepted", and changes nothing
+-- no rows at all is accepted, and changes nothing
 abbrev pub RunOfNone : Type 0
 RunOfNone = (d : Drive) (out : List ℤ) → broken d ≡ false → (runOf d [] out ≡ noRows d (pos 0)) × (outputAfter d [] out ≡ out)
 
--- "No accepted call makes one": no list of calls, accepted or refused, breaks a record, and none is ever broken
+-- no call makes a broken record: no list of calls, accepted or refused, breaks a record, and none is ever broken
 abbrev pub StaysUnbroken : Type 0
 StaysUnbroken = (d : Drive) (cs : List Call) → broken d ≡ false → broken (afterCalls d cs) ≡ false
 

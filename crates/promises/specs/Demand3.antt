@@ -30,7 +30,7 @@ EachRow Holds = (d : Drive) (samples : List ℤ) (i : ℕ) → rowAt d samples i
 abbrev pub EachStepAndRow : (Drive → ℤ → ℤ → ℤ → Type 0) → Type 0
 EachStepAndRow Holds = EachStep Holds × EachRow Holds
 
--- ════ "integrals within their regulator's limits", over any history
+-- ════ the integrals are within the limits of their regulators, over any history
 pub record Within (d : Drive) : Type 0 where
   pub speed : inside (d .settings .q) (d .integrals .speed) ≡ true
   pub d-axis : inside (d .settings .v) (d .integrals .d) ≡ true
@@ -57,7 +57,7 @@ pub record OutputsLeave (d : Drive) (ia ib count : ℤ) : Type 0 where
   pub speed-bottom : thirtieth (d .shaft) ≡ true → pos 4096 ≤ℤ (speedError d ia ib count *ℤ d .settings .skp)
       → negℤ (d .settings .q) <ℤ next d ia ib count .command .torque
 
--- ════ the voltage issued is brought back to the stator, within ±8192; "unclipped, on-time differences stand within less than 2" of what it asks
+-- ════ the voltage issued is brought back to the stator, within ±8192; unclipped, on-times differ by less than 2 counts from what it asks
 pub record PulsesAsAsked (d : Drive) (ia ib count : ℤ) : Type 0 where
   pub voltage : stepped d ia ib count .voltage ≡ inversePark (issued d ia ib count) (sineAt (d .field .angle)) (cosineAt (d .field .angle))
   pub alpha-size : natAbs (stepped d ia ib count .voltage .alpha) ≤ 8192

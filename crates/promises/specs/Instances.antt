@@ -1,4 +1,4 @@
--- No promise is empty: the hypotheses of each are met together, by the bench set from fresh and by drives with it.
+-- No promise is empty: what each asks is met, by the bench set from fresh and by drives with it.
 use mathlib.Core.Path.{_≡_}
 use mathlib.Core.Bool.{true, false}
 use mathlib.Core.List.{List, [], _∷_}
@@ -27,7 +27,7 @@ rested = fresh benchSettings
 unfoldable pub waiting : ℤ → Drive
 waiting target = withShaft (withTarget rested target) (record { count = pos 0; seen = true; sum = pos 0; steps = pos 29; speed = pos 0 })
 
--- settings that are refused, the bench set with document 004's gains 4.0, 0.125, 0.125; so a record with them is broken
+-- settings that are refused, the bench set with the gains 4.0, 0.125, 0.125, which are not tied; so a record with them is broken
 abbrev pub untied : Settings
 untied = benchWith (pos 16384) (pos 512) (pos 512)
 

@@ -14,7 +14,7 @@ use Rattle.drive.specs.Calls.{fresh, stepped}
 use Rattle.rows.specs.Rows.{isAccepted, ranOf}
 use Rattle.promises.specs.Histories.{Call, afterCalls, rowAt, Quiet, isTick, ticksIn, stepsIn, ticksOf, stepsOf, NoClear, since, ticksNeeded}
 
--- ════ "with the target unchanged and no trip, the reference is at the target after gap/R ticks, rounded up, and not sooner"
+-- ════ with the target left alone and no trip, the reference is at the target after |target − reference|/R ticks, rounded up, and not sooner
 pub record OnTime (d : Drive) (cs : List Call) : Type 0 where
   pub reference : afterCalls d cs .command .reference ≡ ramped (ticksOf d cs) (d .command .reference) (d .command .target) (d .settings .r)
   pub reached : (afterCalls d cs .command .reference ≡ d .command .target) ↔ (ticksNeeded d ≤ ticksOf d cs)
@@ -22,7 +22,7 @@ pub record OnTime (d : Drive) (cs : List Call) : Type 0 where
 abbrev pub RampOnTime : Type 0
 RampOnTime = (d : Drive) (cs : List Call) → broken d ≡ false → d .tripped ≡ false → Quiet d cs → OnTime d cs
 
--- ════ "every 30th accepted step since fresh" is a tick, a clear making a fresh drive
+-- ════ the 30th, 60th, 90th accepted step since fresh is a tick, a clear making a fresh drive
 -- after any calls since accepted settings, with n accepted steps since fresh or since the last accepted clear: the next accepted step, and each row
 -- of a run, is a tick exactly when it is a thirtieth; and n/30 of them were
 pub record Thirtieths (d : Drive) (n ticks : ℕ) : Type 0 where
@@ -35,7 +35,7 @@ abbrev pub EveryThirtieth : Type 0
 EveryThirtieth = (s : Settings) (cs : List Call) → accepted s ≡ true
     → Thirtieths (afterCalls (fresh s) cs) (since stepsIn 0 (fresh s) cs) (since ticksIn 0 (fresh s) cs)
 
--- "A drive record goes by its own words, wherever it comes from": the same from any record that is not broken, its steps in the window counted too
+-- where a record comes from plays no part: the same from any record that is not broken, its steps in the window counted too
 abbrev pub ThirtiethsOfAny : Type 0
 ThirtiethsOfAny = (d : Drive) (cs : List Call) → broken d ≡ false
     → Thirtieths (afterCalls d cs) (since stepsIn (natAbs (d .shaft .steps)) d cs) (since ticksIn 0 d cs)

@@ -54,6 +54,6 @@ unfoldable pub AllHold : List Case → Type 0
 AllHold [] = Unit
 AllHold (c ∷ cs) = (c .got ≡ c .wanted) × AllHold cs
 
--- "starred cases (11), gathered as one list under one claim"
+-- the eleven hold, as one list under one claim
 abbrev pub StarredHold : Type 0
 StarredHold = (length cases ≡ 11) × AllHold cases

@@ -1,4 +1,4 @@
--- The bench set: its numbers, and that it is accepted; and that with document 004's current gains, which are not tied, it is refused, with 3.
+-- The bench set: its numbers, and that it is accepted; and that with current gains that are not tied it is refused, with 3.
 -- Assumes nothing.
 use mathlib.Core.Path.{_≡_, refl}
 use mathlib.Core.Bool.{true}
