@@ -1,5 +1,5 @@
-/* Every call on a drive record in place, with every number that it hands back. bin/interrupt_example compares what this writes with
- * interrupt.out. */
+/* Every call on a drive record in place, with every number that it hands back: a test, and a place to look up what a call does. A handler
+ * to start from is in interrupt.c. bin/interrupt_example compares what this writes with calls.out. */
 #include <stdio.h>
 #include <string.h>
 
@@ -70,7 +70,7 @@ static const char *kept(bool yes)
     return yes ? "record as it was" : "record changed";
 }
 
-/* Document 01's three rows: a step, a sample out of range, which trips, and a step of the tripped drive. */
+/* The three rows of docs/RULES.md, "The program": a step, a sample out of range, which trips, and a step of the tripped drive. */
 static void rows(mirgalhet_drive *d)
 {
     mirgalhet_drive before;

@@ -1,23 +1,62 @@
 /* Mirgalhet: a vector drive for three-phase induction motors, on a record that lies where you have it.
  *
- * The functions are proved: what each does is said once, as an equation for every record and every number, in crates/drive/specs and
- * crates/interrupt/specs. This header has the same in words. The rules are document 01's ("The control step and its exact rules"), and
- * so are the numbers handed back.
+ * The rules are docs/RULES.md: every range, every rounding, every number handed back. The functions are proved: what each does is said once,
+ * as an equation for every record and every number, in crates/drive/specs and crates/interrupt/specs. This header has the same in words.
  *
- * Link with target/staticlib/libinterrupt.a, which `rt staticlib interrupt` writes for x86-64. It needs no library, calls nothing
- * outside itself, allocates nothing and keeps nothing between calls: all there is of a drive is its record. Two drives are two records.
+ * Link with libmirgalhet.a, which `bin/library DIR` puts beside this header, for x86-64. It needs no library, calls nothing outside itself,
+ * allocates nothing and keeps nothing between calls: all there is of a drive is its record. Two drives are two records.
  *
- * A caller in Rust declares the structs `#[repr(C)]` with their words in this order, and the functions as `extern "C"` on `&mut` of the
- * record.
+ * An interrupt, once a period; `station` stands for your registers:
  *
- * What a caller owes, since no function can test it:
- *   - d points to a record, and nothing else reads or writes it during a call. A call made in an interrupt must not come in the
- *     middle of another on the same record.
- *   - A flag (seen, tripped) is true or false. Make a record with `mirgalhet_drive d = {0};` before the first mirgalhet_start: flags that
- *     were never written may be neither.
+ *     static mirgalhet_drive drive;    // zeroed, and so broken until it is started
+ *     static volatile int32_t refused; // the number that took the gates away, or 0
+ *
+ *     void pulse_interrupt(void)
+ *     {
+ *         mirgalhet_output o = mirgalhet_step(&drive, station.ia, station.ib, station.count);
+ *
+ *         if (o.number == MIRGALHET_ACCEPTED) {
+ *             station.a = o.a;
+ *             station.b = o.b;
+ *             station.c = o.c;
+ *             station.gates = true;
+ *         } else {
+ *             station.gates = false;
+ *             if (refused == MIRGALHET_ACCEPTED)
+ *                 refused = o.number;
+ *         }
+ *     }
+ *
+ * It is the one of examples/interrupt.c, which has the calls of the main line too, and a small station around it to run. examples/interrupt.rs
+ * is the same in Rust: the structs `#[repr(C)]` with their words in this order, the functions `extern "C"` on `&mut` of the record.
+ *
+ * What you must do, since the drive cannot:
+ *   - Disable the gates on any number but 0 that a step hands back. The compares that come with it are no substitute: T, T, T, with 6 and 7,
+ *     turn every upper switch off and so, in a bridge with complementary switches, every lower one on; 0, 0, 0, with 14, turn every
+ *     upper one on. Either way the motor's terminals are joined, which is not the same as off.
+ *   - Have an output on while the pulse counter stands at or above its compare, so that a phase is on for T - compare of the T counts: at
+ *     compare T never, at compare 0 always. Where your pulse unit has its outputs on below the compare, write T - compare in its place.
+ *     Left as it is, each phase would be off for as long as it should be on: the voltage would be inverted, and the regulators would drive
+ *     the currents away from their references.
+ *   - Scale the samples, and see to dead time.
+ *
+ * What you owe, since no function can test it:
+ *   - d points to a record, and nothing else reads or writes it during a call. A call made in an interrupt must not come in the middle of
+ *     another on the same record: the main line keeps the interrupt out while it starts, clears or sets a target.
+ *   - A flag (seen, tripped) is true or false. Before the first mirgalhet_start make a record with `mirgalhet_drive d = {0};` in C, with
+ *     `mirgalhet_drive d = {};` in C++, or have it static: flags that were never written may be neither.
  * Nothing else is owed: every 32-bit number is allowed in every word, in every sample, in every target and in every setting.
  *
- * Quantities are signed 4.12 numbers: 4096 is 1.0. */
+ * Units, as in docs/RULES.md, "Numbers and units":
+ *   gains     4096 is 1.0
+ *   current   4096 is the base current, which the scaling of the samples chooses
+ *   flux      as a current: the d current that keeps that flux up
+ *   speed     4096 is the base speed, at which the stator has fb Hz
+ *   voltage   4096 is the bus voltage divided by the square root of 3
+ *   angle     65536 is one turn of the rotor flux
+ *   count     counts of the encoder, in a counter of 16 bits
+ *   compare   counts of the pulse counter
+ * A step is one round of control, Ts seconds long; every thirtieth is a tick. */
 #ifndef MIRGALHET_H
 #define MIRGALHET_H
 
@@ -31,7 +70,7 @@
 extern "C" {
 #endif
 
-/* The numbers handed back. 9 is a run's, which has no function here; 11 to 13 are free. */
+/* The numbers of docs/RULES.md, "Numbers handed back". 9 is a run's, which has no function here; 11 to 13 are free. */
 enum mirgalhet_number {
     MIRGALHET_ACCEPTED = 0,
     MIRGALHET_PERIOD = 1,       /* start: T out of range */
@@ -47,53 +86,54 @@ enum mirgalhet_number {
     MIRGALHET_BROKEN = 14       /* step, target, clear: the record is broken */
 };
 
-/* In the order of the motor's sheet. */
+/* In the order of docs/RULES.md, "Settings". Tr is the rotor's time constant in seconds, C the counts of the encoder in thirty steps at base
+ * speed; what is worked out from them is rounded to the nearest whole number. */
 typedef struct mirgalhet_settings {
-    int32_t t;     /* T, period of the pulse counter: 100..4000 */
-    int32_t skp;   /* speed regulator: Kp 1..32767 */
-    int32_t skcor; /* Kcor 0..4096 */
-    int32_t ski;   /* Ki 0..32767, with 4096 Ki = Kp Kcor */
-    int32_t ckp;   /* current regulators, d and q: Kp, as above */
+    int32_t t;     /* T, period, in counts of the pulse counter: 100..4000 */
+    int32_t skp;   /* speed regulator, once a tick: gain Kp 1..32767 */
+    int32_t skcor; /* Kcor, its share that is taken back where the output is clipped, 4096 being all of it: 0..4096 */
+    int32_t ski;   /* Ki, its gain of the integral: 0..32767, with 4096 Ki = Kp Kcor */
+    int32_t ckp;   /* d and q regulator, which share them, once a step: Kp, as above */
     int32_t ckcor; /* Kcor */
     int32_t cki;   /* Ki */
-    int32_t v;     /* V, limit of the voltage: 1..4096 */
-    int32_t q;     /* Q, limit of the torque reference: 1..8191 */
-    int32_t kr;    /* Kr 1..4096 */
-    int32_t kt;    /* Kt 0..32767 */
-    int32_t kth;   /* Kth 0..8191 */
-    int32_t kn;    /* Kn 1..4096 */
-    int32_t f;     /* F, flux: 410..8191 */
-    int32_t r;     /* R, ramp: 1..8191 */
+    int32_t v;     /* V, limit of the voltages vd and vq, either way: 1..4096 */
+    int32_t q;     /* Q, limit of the torque reference, a current, either way: 1..8191 */
+    int32_t kr;    /* Kr, how fast the flux follows, 4096*Ts/Tr: 1..4096 */
+    int32_t kt;    /* Kt, slip for a q current at flux 1.0, 4096/(2*pi*fb*Tr): 0..32767 */
+    int32_t kth;   /* Kth, angle in a step at base speed, 65536*fb*Ts: 0..8191 */
+    int32_t kn;    /* Kn, speed for counts, 4096*256/C: 1..4096 */
+    int32_t f;     /* F, flux up to base speed: 410..8191 */
+    int32_t r;     /* R, ramp, how far the speed reference moves in a tick: 1..8191 */
 } mirgalhet_settings;
 
 typedef struct mirgalhet_shaft {
     int32_t count; /* the last count, 0..65535 */
     bool seen;     /* whether there was one */
-    int32_t sum;   /* the movements of the window, within +-32768 times its steps */
+    int32_t sum;   /* the movements of the window, in counts, within +-32768 times its steps */
     int32_t steps; /* the steps of the window, 0..29 */
-    int32_t speed; /* within +-16383 */
+    int32_t speed; /* as last measured, within +-16383 */
 } mirgalhet_shaft;
 
 typedef struct mirgalhet_command {
-    int32_t target;    /* within +-8191 */
+    int32_t target;    /* where the speed reference goes, within +-8191 */
     int32_t reference; /* of the speed, within +-8191 */
-    int32_t torque;    /* torque reference, within +-Q */
-    int32_t flux;      /* flux reference, 0..F */
+    int32_t torque;    /* torque reference, of the q current, within +-Q */
+    int32_t flux;      /* flux reference, of the d current, 0..F */
 } mirgalhet_command;
 
 typedef struct mirgalhet_field {
-    int32_t flux;  /* within +-20000 */
-    int32_t angle; /* 0..65535 */
+    int32_t flux;  /* the rotor's, as the model has it, within +-20000 */
+    int32_t angle; /* of the rotor flux, 0..65535 */
 } mirgalhet_field;
 
 typedef struct mirgalhet_integrals {
-    int32_t speed; /* within +-Q */
-    int32_t d;     /* within +-V */
-    int32_t q;     /* within +-V */
+    int32_t speed; /* of the speed regulator, within +-Q */
+    int32_t d;     /* of the d regulator, within +-V */
+    int32_t q;     /* of the q regulator, within +-V */
 } mirgalhet_integrals;
 
-/* The record. Read what you like of it between two calls. A record with a word outside its range, or with settings that would be
- * refused, is broken; a zeroed one is. No accepted call makes one. */
+/* The record: docs/RULES.md, "The drive record". Read what you like of it between two calls. A record with a word outside its range, or with
+ * settings that would be refused, is broken; a zeroed one is. No call makes a broken record of one that is not. */
 typedef struct mirgalhet_drive {
     mirgalhet_settings settings;
     mirgalhet_shaft shaft;
@@ -103,14 +143,14 @@ typedef struct mirgalhet_drive {
     bool tripped;
 } mirgalhet_drive;
 
-/* What a step answers. On-time of a phase is T less its compare. */
+/* What a step answers. A phase is on for T - compare of the T counts. */
 typedef struct mirgalhet_output {
-    int32_t a; /* the compares, 0..T */
+    int32_t a; /* the compares of the three phases, 0..T */
     int32_t b;
     int32_t c;
-    int32_t number;
-    bool clipped;  /* whether the voltage was more than the period holds */
-    int32_t alpha; /* the voltage that was modulated, before clipping */
+    int32_t number; /* on any but 0 disable the gates */
+    bool clipped;   /* whether the voltage was more than the period holds */
+    int32_t alpha;  /* the voltage that was modulated, before clipping */
     int32_t beta;
 } mirgalhet_output;
 
@@ -120,15 +160,15 @@ typedef struct mirgalhet_output {
  * What *d was plays no part in the number, so a broken or a tripped drive can be replaced too. */
 int32_t mirgalhet_start(mirgalhet_drive *d, mirgalhet_settings settings);
 
-/* One step, for the phase currents ia and ib and the encoder's count: call it once a period.
+/* One step, for the phase currents ia and ib and the encoder's count: call it once a period. docs/RULES.md, "One accepted step, in order".
  *   0        the step is taken: *d is the drive after it.
- *   14       the record is broken: compares 0, 0, 0, so all phases are on alike; *d is as it was. Comes before 7.
- *   7        the drive is tripped: compares T, T, T, so no phase is on; *d is as it was. Comes before 6.
+ *   14       the record is broken: compares 0, 0, 0; *d is as it was. Comes before 7.
+ *   7        the drive is tripped: compares T, T, T; *d is as it was. Comes before 6.
  *   6        the sample is refused: compares T, T, T; *d is as it was but marked tripped.
- * With 6, 7 and 14 nothing is clipped and the voltage is 0, 0. */
+ * With 6, 7 and 14 nothing is clipped and the voltage is 0, 0; disable the gates. */
 mirgalhet_output mirgalhet_step(mirgalhet_drive *d, int32_t ia, int32_t ib, int32_t count);
 
-/* A new target for the speed. The reference moves to it by R every 30th step.
+/* A new target for the speed. The reference moves to it by R every tick, which is every 30th accepted step.
  *   0        the target is replaced, and nothing else.
  *   14       the record is broken. Comes before 7.
  *   7        the drive is tripped. Comes before 8.

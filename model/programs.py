@@ -165,6 +165,35 @@ def calls():
 
 # examples/interrupt.c and examples/interrupt.rs, one program in two languages
 
+class Station(Place):
+    """A record in place with a handler of the pulse interrupt over it: the number that took the gates away stays until a start or a clear."""
+
+    def __init__(self):
+        super().__init__()
+        self.refused = 0
+
+    def periods(self, samples):
+        for sample in samples:
+            answer = self.step(*sample)
+            if answer.number == 0:
+                self.write('compares %d %d %d, gates on' % answer.compares)
+            else:
+                self.refused = self.refused or answer.number
+                self.write('gates off, number %d' % self.refused)
+
+
 def interrupt():
-    """What both write. Not written yet: model/answers has no line for it either."""
-    raise NotImplementedError('examples/interrupt.out')
+    """What examples/interrupt.c and examples/interrupt.rs write."""
+    samples = [(0, 0, 0), (310, -160, 2), (590, -280, 4), (840, -430, 6), (9000, -430, 8), (1050, -520, 10), (240, -130, 65534), (460, -220, 0)]
+    station = Station()
+    station.periods(samples[:1])
+    station.write('start %d' % station.start(drive.BENCH))
+    station.refused = 0
+    station.target(2048)
+    station.periods(samples[:6])
+    station.target(2048)
+    station.clear()
+    station.refused = 0
+    station.target(2048)
+    station.periods(samples[6:])
+    return text_of(station.lines)

@@ -22,14 +22,26 @@ pub fn receive(bytes: &mut [u8]) -> Got
     }
 }
 
+fn hand(to: i32, bytes: &[u8], place: usize) -> bool
+    requires { ⌜ place ≤ length (now bytes) ⌝ }
+{
+    io::write_all(to, &bytes[..place])
+}
+
 // The first so many bytes, and whether all of them were taken.
 pub fn send(out: &[u8], place: usize) -> bool
     requires { ⌜ place ≤ length (now out) ⌝ }
 {
-    io::write_all(STDOUT_FILENO, &out[..place])
+    hand(STDOUT_FILENO, out, place)
 }
 
 // Words for whoever started the program, on standard error. Where they too cannot be written there is nobody left to tell.
+pub fn tell(words: &[u8], place: usize)
+    requires { ⌜ place ≤ length (now words) ⌝ }
+{
+    hand(STDERR_FILENO, words, place);
+}
+
 pub fn unread(program: &[u8]) {
     io::write_all(STDERR_FILENO, program);
     io::write_all(STDERR_FILENO, b": standard input cannot be read\n");

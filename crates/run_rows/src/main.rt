@@ -58,6 +58,17 @@ fn read_through(first: Turned, bytes: &mut [u8], table: &sine::Table, out: &mut 
     t
 }
 
+// What is said of a line that is no row, on standard error: 15 bytes, any count, 14 bytes. Standard output has its number too, but a
+// program hands back no status, and whoever started it has only these words to go by.
+fn tell_bad(s: Stream, out: &mut [u8])
+    requires { ⌜ 49 ≤ length (now out) ⌝ }
+{
+    let a = writing::put_text(b"run_rows: line ", out, 0);
+    let b = writing::put_count(feeding::next(s.tally.rows), out, a);
+    let c = writing::put_text(b" is not a row\n", out, b);
+    pipes::tell(out, c);
+}
+
 // Where a read or a write failed words on standard error say so, and no totals are written: nobody takes what stands for the whole.
 fn main() {
     let Checked::Accepted(s) = settings::check(settings::bench_settings()) else {
@@ -84,5 +95,9 @@ fn main() {
     let place = stream::ended(t.stream, &mut out, 0);
     if !(t.sent && pipes::send(&out, place)) {
         pipes::unsent(b"run_rows");
+        return;
+    }
+    if t.stream.begun {
+        tell_bad(t.stream, &mut out);
     }
 }
