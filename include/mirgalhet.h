@@ -51,12 +51,12 @@
  *   gains     4096 is 1.0
  *   current   4096 is the base current, which the scaling of the samples chooses
  *   flux      as a current: the d current that keeps that flux up
- *   speed     4096 is the base speed, at which the stator has fb Hz
+ *   speed     4096 is the base speed: without slip the rotor flux then turns fb times a second
  *   voltage   4096 is the bus voltage divided by the square root of 3
  *   angle     65536 is one turn of the rotor flux
  *   count     counts of the encoder, in a counter of 16 bits
  *   compare   counts of the pulse counter
- * A step is one round of control, Ts seconds long; every thirtieth is a tick. */
+ * A step is one round of control, Ts seconds long; every thirtieth accepted one is a tick. */
 #ifndef MIRGALHET_H
 #define MIRGALHET_H
 
@@ -91,7 +91,7 @@ enum mirgalhet_number {
 typedef struct mirgalhet_settings {
     int32_t t;     /* T, period, in counts of the pulse counter: 100..4000 */
     int32_t skp;   /* speed regulator, once a tick: gain Kp 1..32767 */
-    int32_t skcor; /* Kcor, its share that is taken back where the output is clipped, 4096 being all of it: 0..4096 */
+    int32_t skcor; /* Kcor, how far its integral goes towards the output each time, 4096 being all the way: 0..4096 */
     int32_t ski;   /* Ki, its gain of the integral: 0..32767, with 4096 Ki = Kp Kcor */
     int32_t ckp;   /* d and q regulator, which share them, once a step: Kp, as above */
     int32_t ckcor; /* Kcor */
@@ -122,7 +122,7 @@ typedef struct mirgalhet_command {
 } mirgalhet_command;
 
 typedef struct mirgalhet_field {
-    int32_t flux;  /* the rotor's, as the model has it, within +-20000 */
+    int32_t flux;  /* the rotor's, by the flux model, within +-20000 */
     int32_t angle; /* of the rotor flux, 0..65535 */
 } mirgalhet_field;
 
