@@ -88,7 +88,7 @@ timeOf t e = down (t *ℤ e) (pos 16777216)
 unfoldable pub lesser : ℤ → ℤ → ℤ
 lesser a b = cond (ltZ b a) b a
 
--- the clipping rule: t1 becomes the lesser of t1 and T, t2 the lesser of t2 and T − t1
+-- the clipping rule: t1 is cut to at most T, then t2 to at most T − t1
 unfoldable pub cut : ℤ → ℤ → ℤ → Times
 cut t t1 t2 = record { t1 = lesser t1 t; t2 = lesser t2 (t -ℤ lesser t1 t); clipped = true }
 

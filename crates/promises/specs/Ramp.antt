@@ -14,7 +14,7 @@ use Rattle.drive.specs.Calls.{fresh, stepped}
 use Rattle.rows.specs.Rows.{isAccepted, ranOf}
 use Rattle.promises.specs.Histories.{Call, afterCalls, rowAt, Quiet, isTick, ticksIn, stepsIn, ticksOf, stepsOf, NoClear, since, ticksNeeded}
 
--- ════ with the target left alone and no trip, the reference is at the target after |target − reference|/R ticks, rounded up, and not sooner
+-- ════ while the target stays and nothing trips, the reference is there once |target − reference|/R ticks have passed, rounded up, and not while fewer have
 pub record OnTime (d : Drive) (cs : List Call) : Type 0 where
   pub reference : afterCalls d cs .command .reference ≡ ramped (ticksOf d cs) (d .command .reference) (d .command .target) (d .settings .r)
   pub reached : (afterCalls d cs .command .reference ≡ d .command .target) ↔ (ticksNeeded d ≤ ticksOf d cs)

@@ -53,7 +53,7 @@ unfoldable pub measured : Shaft → ℤ → Shaft
 measured s kn =
     record { count = s .count; seen = s .seen; sum = pos 0; steps = pos 0; speed = speedOf (s .sum) kn }
 
--- The reference moves towards the target by R, or onto it if nearer: the target, held to what is R from the reference.
+-- The reference becomes the target where that is at most R away, else it moves R towards it: the target, held to what is R from the reference.
 unfoldable pub rampedTo : ℤ → ℤ → ℤ → ℤ
 rampedTo reference target r = held target (reference -ℤ r) (reference +ℤ r)
 
