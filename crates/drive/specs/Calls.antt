@@ -19,8 +19,7 @@ use Rattle.drive_record.specs.Record.{targetEnd, broken}
 use Rattle.stages.specs.Step.{sampleOk, advanced}
 
 -- ════ settings: a fresh drive, or a number
--- integrals, flux, angle, stored count, speed, reference, target and torque reference 0, flux reference F, an empty window, no count
--- seen yet, not tripped
+-- the column "Fresh" of the record: no count seen, not tripped, the flux reference F, every other word 0
 unfoldable pub fresh : Settings → Drive
 fresh s = record {
   settings = s;
@@ -44,7 +43,7 @@ madeNumber (Ready d) = pos 0
 madeNumber (Refused n) = n
 
 -- ════ a step
--- the state, but marked tripped
+-- the record, tripped, and nothing else of it changed
 unfoldable pub withTrip : Drive → Drive
 withTrip d = record {
   settings = d .settings;
@@ -64,7 +63,7 @@ refused d t number = record {
   voltage = record { alpha = pos 0; beta = pos 0 };
 }
 
--- on a record that is not broken, T, T, T: 7 has state same, 6 state same but marked tripped
+-- on a record that is not broken, T, T, T: with 7 the record as it was, with 6 the record tripped
 abbrev pub soundTable : Drive → ℤ → ℤ → ℤ → List (Rung Stepped)
 soundTable d ia ib count =
     when (d .tripped) 7 (refused d (d .settings .t))
@@ -74,7 +73,7 @@ soundTable d ia ib count =
 unfoldable pub steppedSound : Drive → ℤ → ℤ → ℤ → Stepped
 steppedSound d ia ib count = answerOf (soundTable d ia ib count) (advanced d ia ib count)
 
--- 14 comes before every other number: state same and 0, 0, 0
+-- 14 before every other number: the record as it was, and 0, 0, 0
 abbrev pub stepTable : Drive → ℤ → ℤ → ℤ → List (Rung Stepped)
 stepTable d ia ib count = when (broken d) 14 (refused d (pos 0)) ∷ soundTable d ia ib count
 
@@ -100,7 +99,7 @@ withTarget d wanted = record {
 abbrev pub answered : Drive → ℤ → Answered
 answered d number = record { drive = d; number = number }
 
--- refused, state same
+-- refused, the record as it was
 abbrev pub targetTable : Drive → ℤ → List (Rung Answered)
 targetTable d wanted = when (broken d) 14 (answered d) ∷ when (d .tripped) 7 (answered d) ∷ unless (inside (pos targetEnd) wanted) 8 (answered d) ∷ []
 
@@ -108,7 +107,7 @@ unfoldable pub targeted : Drive → ℤ → Answered
 targeted d wanted = answerOf (targetTable d wanted) (answered (withTarget d wanted) (pos 0))
 
 -- ════ clear
--- refused, state same; else the fresh drive of the same settings
+-- refused, the record as it was; else fresh again, its settings kept
 abbrev pub clearTable : Drive → List (Rung Answered)
 clearTable d = when (broken d) 14 (answered d) ∷ unless (d .tripped) 10 (answered d) ∷ []
 

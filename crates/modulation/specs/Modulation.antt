@@ -80,7 +80,7 @@ sectorAt n e = getD (sectors (e .x) (e .y) (e .z)) n (a·b·c (pos 0) (pos 0))
 unfoldable pub sectorOf : Entries → Sector
 sectorOf e = sectorAt (sectorNumber e) e
 
--- each time is T·(entry)/2^24 down
+-- a time: T·w/2^24 down, w being the word of the table
 unfoldable pub timeOf : ℤ → ℤ → ℤ
 timeOf t e = down (t *ℤ e) (pos 16777216)
 
@@ -99,7 +99,7 @@ clippedTimes t t1 t2 = cond (ltZ t (t1 +ℤ t2)) (cut t t1 t2) (record { t1 = t1
 unfoldable pub timesOf : ℤ → Sector → Times
 timesOf t r = clippedTimes t (timeOf t (r .t1)) (timeOf t (r .t2))
 
--- first compare = (T − t1 − t2)/2 down; second = first + t1; third = second + t2
+-- of the phase that is on first (T − t1 − t2)/2 down, of the second t1 more, of the third t2 more again
 unfoldable pub compareAt : ℕ → ℤ → ℤ → ℤ → ℤ
 compareAt zero t t1 t2 = down (t -ℤ t1 -ℤ t2) (pos 2)
 compareAt (suc zero) t t1 t2 = down (t -ℤ t1 -ℤ t2) (pos 2) +ℤ t1

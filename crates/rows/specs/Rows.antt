@@ -69,10 +69,10 @@ rowsFit samples out = eqb (samples % 3) 0 && leb (4 * (samples / 3)) out
 abbrev pub runTable : {A : Type 0} → Drive → List ℤ → List ℤ → (ℤ → A) → List (Rung A)
 runTable d samples out refused = when (broken d) 14 refused ∷ unless (rowsFit (length samples) (length out)) 9 refused ∷ []
 
--- refused, state same and both counts 0; else the run's own number is 0
+-- refused, the record as it was and both counts 0; else the run's own number is 0
 unfoldable pub runOf : Drive → List ℤ → List ℤ → Ran
 runOf d samples out = answerOf (runTable d samples out (noRows d)) (ranOf d samples (rowsIn samples))
 
--- the output after it: refused, nothing written; else numbers past the rows' output stay
+-- the output after it: refused, nothing written; else places past the rows' output stay as they are
 unfoldable pub outputAfter : Drive → List ℤ → List ℤ → List ℤ
 outputAfter d samples out = answerOf (runTable d samples out (λ number. out)) (writtenOf d samples (rowsIn samples) ++ drop (4 * rowsIn samples) out)

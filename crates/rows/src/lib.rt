@@ -23,7 +23,7 @@ use drive_record::Drive;
 use settings::Checked;
 use stages::Stepped;
 
-// What a run answers: the drive after it, the run's own number, the count of accepted steps and of clipped ones among them.
+// What a run answers: the drive after it, its own number, how many steps were accepted and how many of those were clipped.
 pub struct Ran {
     pub drive: Drive,
     pub number: i32,

@@ -23,24 +23,24 @@ abbrev pub fastest : ℕ
 fastest = 16383
 
 -- ════ rules 1 and 2
--- 0..32767 as it is, 32768..65535 less 65536
+-- m, less 65536 where it is 32768 or more
 unfoldable pub signed16 : ℤ → ℤ
 signed16 m = cond (ltZ m (pos 32768)) m (m -ℤ pos 65536)
 
--- count minus previous count, taken round a 16-bit counter that wraps
+-- the movement: (count − stored count) modulo 65536, less 65536 where that is 32768 or more
 unfoldable pub movement : ℤ → ℤ → ℤ
 movement count previous = signed16 (modulo (count -ℤ previous) (pos 65536))
 
--- the first step after fresh only stores the count: its movement is 0
+-- where no count has been seen the movement is 0
 unfoldable pub moved : Shaft → ℤ → ℤ
 moved s count = cond (s .seen) (movement count (s .count)) (pos 0)
 
--- rule 1: the count is stored, its movement summed, and the step is one of the thirty
+-- rule 1: the sum grows by the movement, the steps by 1; the count is stored, and seen becomes true
 unfoldable pub counted : Shaft → ℤ → Shaft
 counted s count =
     record { count = count; seen = true; sum = s .sum +ℤ moved s count; steps = s .steps +ℤ pos 1; speed = s .speed }
 
--- a step is a 30th exactly when the steps in the window are 29 before it
+-- rule 2: a tick, exactly where the steps were 29 before this one
 unfoldable pub thirtieth : Shaft → Bool
 thirtieth s = equal (pos (window .hi)) (s .steps)
 
@@ -48,7 +48,7 @@ thirtieth s = equal (pos (window .hi)) (s .steps)
 unfoldable pub speedOf : ℤ → ℤ → ℤ
 speedOf sum kn = held (down (sum *ℤ kn) (pos 256)) (negℤ (pos fastest)) (pos fastest)
 
--- the speed of the window, and the window restarts
+-- the speed of the window; then sum and steps become 0
 unfoldable pub measured : Shaft → ℤ → Shaft
 measured s kn =
     record { count = s .count; seen = s .seen; sum = pos 0; steps = pos 0; speed = speedOf (s .sum) kn }
@@ -66,7 +66,7 @@ ramped (suc k) reference target r = rampedTo (ramped k reference target r) targe
 unfoldable pub sizeOf : ℤ → ℤ
 sizeOf n = pos (natAbs n)
 
--- flux reference: F if |n| ≤ 4096, else F·4096/|n| down
+-- the flux reference: F where n is within ±4096, else F·4096/|n| down
 unfoldable pub weakened : ℤ → ℤ → ℤ
 weakened f n = cond (leZ (sizeOf n) (pos 4096)) f (down (f *ℤ pos 4096) (sizeOf n))
 

@@ -42,7 +42,7 @@ unfoldable pub currentRegulated : Settings → ℤ → ℤ → ℤ → Regulated
 currentRegulated s x wanted actual = steered x wanted actual (currentGains s) (s .v)
 
 -- ════ rules 1 and 2
--- the 30th step, on the speed n: the reference moves towards the target by R; the flux reference is weakened
+-- a tick, on the speed n: the reference becomes the target or moves R towards it; the flux reference is weakened
 unfoldable pub rampedBy : Drive → ℤ → Command
 rampedBy d n = record {
   target = d .command .target;
@@ -85,7 +85,7 @@ commanded d s =
     withCommand d s (rampedBy d (s .speed))
     (speedRegulated (d .settings) (d .integrals .speed) (rampedBy d (s .speed) .reference) (s .speed))
 
--- rules 1 and 2: every step counts, every 30th measures the speed and commands
+-- rules 1 and 2: every step counts; a tick measures the speed and commands
 unfoldable pub rules1And2 : Drive → ℤ → Drive
 rules1And2 d count =
     cond (thirtieth (d .shaft))
@@ -101,7 +101,7 @@ unfoldable pub fieldAfter : Drive → Rotor → Field
 fieldAfter d i =
     followed (d .settings .kr) (d .settings .kt) (d .settings .kth) (d .field) (i .d) (i .q) (d .shaft .speed)
 
--- ════ rule 7: errors are flux reference − d and torque reference − q
+-- ════ rule 7: for d the error is flux reference − d, for q it is torque reference − q
 unfoldable pub dRegulated : Drive → Rotor → Regulated
 dRegulated d i = currentRegulated (d .settings) (d .integrals .d) (d .command .flux) (i .d)
 
