@@ -1,5 +1,5 @@
-/* Every call on a drive record in place, with every number that it hands back: a test, and a place to look up what a call does. A handler
- * to start from is in interrupt.c. bin/interrupt_example compares what this writes with calls.out. */
+/* Every call on records in place, with every number that it hands back: a test, and a place to look up what a call does. A handler to start
+ * from is in interrupt.c. bin/interrupt_example compares what this writes with calls.out. */
 #include <stdio.h>
 #include <string.h>
 
@@ -139,6 +139,65 @@ static void ticked(mirgalhet_drive *d)
     words(d);
 }
 
+static void print_row(const mirgalhet_moments *m, int32_t i)
+{
+    mirgalhet_row r = mirgalhet_recorded_row(m, i);
+    printf("row %d: %d, %d %d %d %d %d %d\n", (int)i, (int)r.number, (int)r.ia, (int)r.ib, (int)r.speed, (int)r.a, (int)r.b, (int)r.c);
+}
+
+/* A call that may change the record of the last moments: its number, and how many rows there are then. */
+static void and_rows(const char *call, int32_t number, const mirgalhet_moments *m)
+{
+    printf("%s %d, rows %d\n", call, (int)number, (int)mirgalhet_recorded_count(m));
+}
+
+/* Counts out of range: there is no row, and an accepted step stores one that is the only one. */
+static void wild(mirgalhet_drive *d, mirgalhet_moments *m)
+{
+    static const int32_t counts[4][2] = {{128, 1}, {-1, 1}, {0, 129}, {0, -1}};
+
+    for (int k = 0; k < 4; k++) {
+        m->next = counts[k][0];
+        m->real = counts[k][1];
+        print_row(m, 0);
+        and_rows("refused step", mirgalhet_recorded_step(d, m, 9000, 0, 0).number, m);
+        printf("next %d real %d\n", (int)m->next, (int)m->real);
+        d->tripped = false;
+        and_rows("step", mirgalhet_recorded_step(d, m, 5, 6, 7).number, m);
+        printf("next %d real %d\n", (int)m->next, (int)m->real);
+    }
+}
+
+/* The last moments. A row's ia is the number of its step, so that one sees which steps are kept. */
+static void recorded(mirgalhet_drive *d)
+{
+    mirgalhet_moments m = {0};
+    mirgalhet_settings wrong = bench();
+    int32_t number = 0;
+
+    wrong.t = 99;
+    and_rows("recorded start", mirgalhet_recorded_start(d, &m, bench()), &m);
+    for (int32_t k = 1; k <= 130; k++)
+        number = mirgalhet_recorded_step(d, &m, k, -2 * k, 300 * k).number;
+    and_rows("recorded step 130 times,", number, &m);
+    print_row(&m, -1);
+    print_row(&m, 0);
+    print_row(&m, 127);
+    print_row(&m, 128);
+    and_rows("step without a record", mirgalhet_step(d, 0, 0, 0).number, &m);
+    and_rows("recorded clear", mirgalhet_recorded_clear(d, &m), &m);
+    and_rows("recorded start", mirgalhet_recorded_start(d, &m, wrong), &m);
+    and_rows("recorded step", mirgalhet_recorded_step(d, &m, 9000, 0, 0).number, &m);
+    and_rows("recorded step", mirgalhet_recorded_step(d, &m, 0, 0, 0).number, &m);
+    print_row(&m, 127);
+    and_rows("recorded clear", mirgalhet_recorded_clear(d, &m), &m);
+    wild(d, &m);
+    d->field.angle = 65536;
+    and_rows("recorded step", mirgalhet_recorded_step(d, &m, 0, 0, 0).number, &m);
+    and_rows("recorded clear", mirgalhet_recorded_clear(d, &m), &m);
+    and_rows("recorded start", mirgalhet_recorded_start(d, &m, bench()), &m);
+}
+
 int main(void)
 {
     mirgalhet_drive d = {0};
@@ -150,5 +209,6 @@ int main(void)
     cleared(&d);
     broken(&d);
     ticked(&d);
+    recorded(&d);
     return 0;
 }

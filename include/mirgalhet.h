@@ -1,10 +1,12 @@
 /* Mirgalhet: a vector drive for three-phase induction motors, on a record that lies where you have it.
  *
  * The rules are docs/RULES.md: every range, every rounding, every number handed back. The functions are proved: what each does is said once,
- * as an equation for every record and every number, in crates/drive/specs and crates/interrupt/specs. This header has the same in words.
+ * as an equation for every record and every number, in crates/drive/specs, crates/interrupt/specs and crates/moments/specs. This header has
+ * the same in words.
  *
- * Link with libmirgalhet.a, which `bin/library DIR` puts beside this header, for x86-64. It needs no library, calls nothing outside itself,
- * allocates nothing and keeps nothing between calls: all there is of a drive is its record. Two drives are two records.
+ * Link with libmirgalhet.a, which `bin/library DIR` puts beside this header, for x86-64. It allocates nothing and keeps nothing between
+ * calls: all there is of a drive is its record, and the one of its last moments where you keep that. Two drives are two records.
+ * From outside it needs memcpy and memset, for mirgalhet_recorded_start and mirgalhet_recorded_clear, and nothing else.
  *
  * An interrupt, once a period; `station` stands for your registers:
  *
@@ -30,6 +32,12 @@
  * It is the one of examples/interrupt.c, which has the calls of the main line too, and a small station around it to run. examples/interrupt.rs
  * is the same in Rust: the structs `#[repr(C)]` with their words in this order, the functions `extern "C"` on `&mut` of the record.
  *
+ * To see after a trip what led to it, keep a record of the last moments beside the drive's: `static mirgalhet_moments moments;`, or set to
+ * {0}, in C++ to {}, which is empty. Then start, step and clear by the recorded calls, which do the same to the drive; a target is set as
+ * ever. Each accepted step stores a row, and the last 128 can be read. Once a step was refused, every later one is, until you clear or
+ * start the drive, and a refused step stores nothing. So after a trip the rows stay as they are: the main line can read them while the
+ * interrupt goes on, and clear when it has them. examples/moments.c does that.
+ *
  * What you must do, since the drive cannot:
  *   - Disable the gates on any number but 0 that a step hands back. The compares that come with it are no substitute: T, T, T, with 6 and 7,
  *     turn every upper switch off and so, in a bridge with complementary switches, every lower one on; 0, 0, 0, with 14, turn every
@@ -43,9 +51,12 @@
  * What you owe, since no function can test it:
  *   - d points to a record, and nothing else reads or writes it during a call. A call made in an interrupt must not come in the middle of
  *     another on the same record: the main line keeps the interrupt out while it starts, clears or sets a target.
+ *   - m points to a record of the last moments, and the same holds of it. The main line keeps the interrupt out while it reads rows too, from
+ *     the first to the last where they are to fit together: each accepted step moves them on. After a trip none does, and it need not.
  *   - A flag (seen, tripped) is true or false. Before the first mirgalhet_start make a record with `mirgalhet_drive d = {0};` in C, with
  *     `mirgalhet_drive d = {};` in C++, or have it static: flags that were never written may be neither.
- * Nothing else is owed: every 32-bit number is allowed in every word, in every sample, in every target and in every setting.
+ * Nothing else is owed: every 32-bit number is allowed in every word of either record, in every sample, in every target, in every setting
+ * and as the index of a row.
  *
  * Units, as in docs/RULES.md, "Numbers and units":
  *   gains     4096 is 1.0
@@ -83,7 +94,8 @@ enum mirgalhet_number {
     MIRGALHET_TARGET = 8,       /* target: outside +-8191 */
     MIRGALHET_RUN = 9,          /* a run: samples not in threes, or output too short */
     MIRGALHET_NOT_TRIPPED = 10, /* clear: the drive is not tripped */
-    MIRGALHET_BROKEN = 14       /* step, target, clear: the record is broken */
+    MIRGALHET_BROKEN = 14,      /* step, target, clear: the record is broken */
+    MIRGALHET_NO_ROW = 19       /* row: there is no such row */
 };
 
 /* In the order of docs/RULES.md, "Settings". Tr is the rotor's time constant in seconds, C the counts of the encoder in thirty steps at base
@@ -154,6 +166,30 @@ typedef struct mirgalhet_output {
     int32_t beta;
 } mirgalhet_output;
 
+/* The record of the last moments: docs/RULES.md, "The last moments". A row for each of the last 128 accepted recorded steps, in six rings
+ * that have its words at the same place. mirgalhet_recorded_row knows where the oldest stands. */
+typedef struct mirgalhet_moments {
+    int32_t ia[128];    /* the phase currents, as they were sampled */
+    int32_t ib[128];
+    int32_t speed[128]; /* after the step */
+    int32_t a[128];     /* the compares of the three phases */
+    int32_t b[128];
+    int32_t c[128];
+    int32_t next; /* the place of the next row, 0..127 */
+    int32_t real; /* how many rows are real, 0..128; where next or real is out of range, none is */
+} mirgalhet_moments;
+
+/* A row of it, as it is read. */
+typedef struct mirgalhet_row {
+    int32_t number; /* 0, or 19 where there is no such row */
+    int32_t ia;     /* the phase currents, as they were sampled */
+    int32_t ib;
+    int32_t speed; /* after the step */
+    int32_t a;     /* the compares of the three phases */
+    int32_t b;
+    int32_t c;
+} mirgalhet_row;
+
 /* A fresh drive with these settings in the place of *d. The lowest number that applies is given.
  *   0        *d is the fresh drive of these settings: not tripped, every other word 0 but the flux reference, which is F.
  *   1 to 5   the settings are refused; *d is as it was.
@@ -181,6 +217,30 @@ int32_t mirgalhet_target(mirgalhet_drive *d, int32_t wanted);
  *   14       the record is broken; *d is as it was. Comes before 10.
  *   10       the drive is not tripped; *d is as it was. */
 int32_t mirgalhet_clear(mirgalhet_drive *d);
+
+/* mirgalhet_start, and an empty record beside the drive.
+ *   0        *d is the fresh drive of these settings, every word of *m is 0.
+ *   1 to 5   the settings are refused; *d and *m are as they were. */
+int32_t mirgalhet_recorded_start(mirgalhet_drive *d, mirgalhet_moments *m, mirgalhet_settings settings);
+
+/* mirgalhet_step, with the same answer and the same *d afterwards, and its row stored.
+ *   0        *m has the row of this step as its newest. Where it had 128 the oldest is gone; where next or real was out of range this row
+ *            is the only one.
+ *   6, 7, 14 the step is refused; *m is as it was. Disable the gates. */
+mirgalhet_output mirgalhet_recorded_step(mirgalhet_drive *d, mirgalhet_moments *m, int32_t ia, int32_t ib, int32_t count);
+
+/* mirgalhet_clear, and an empty record beside the drive: read the rows before.
+ *   0        *d is the fresh drive of the same settings, every word of *m is 0.
+ *   10, 14   the clear is refused; *d and *m are as they were. */
+int32_t mirgalhet_recorded_clear(mirgalhet_drive *d, mirgalhet_moments *m);
+
+/* How many rows there are to read, 0..128; 0 where next or real is out of range. */
+int32_t mirgalhet_recorded_count(const mirgalhet_moments *m);
+
+/* Row i, oldest first: row 0 is the oldest, the newest is the one before the count. Its number is
+ *   0        the row is there.
+ *   19       there is no such row: i is below 0, or not below the count. The rest is 0. */
+mirgalhet_row mirgalhet_recorded_row(const mirgalhet_moments *m, int32_t i);
 
 /* The archive was compiled for this layout; a compiler that lays the structs out in another way cannot call it. */
 #ifdef __cplusplus
@@ -241,6 +301,23 @@ MIRGALHET_AT(mirgalhet_output, number, 12);
 MIRGALHET_AT(mirgalhet_output, clipped, 16);
 MIRGALHET_AT(mirgalhet_output, alpha, 20);
 MIRGALHET_AT(mirgalhet_output, beta, 24);
+MIRGALHET_SIZE(mirgalhet_moments, 3080);
+MIRGALHET_AT(mirgalhet_moments, ia, 0);
+MIRGALHET_AT(mirgalhet_moments, ib, 512);
+MIRGALHET_AT(mirgalhet_moments, speed, 1024);
+MIRGALHET_AT(mirgalhet_moments, a, 1536);
+MIRGALHET_AT(mirgalhet_moments, b, 2048);
+MIRGALHET_AT(mirgalhet_moments, c, 2560);
+MIRGALHET_AT(mirgalhet_moments, next, 3072);
+MIRGALHET_AT(mirgalhet_moments, real, 3076);
+MIRGALHET_SIZE(mirgalhet_row, 28);
+MIRGALHET_AT(mirgalhet_row, number, 0);
+MIRGALHET_AT(mirgalhet_row, ia, 4);
+MIRGALHET_AT(mirgalhet_row, ib, 8);
+MIRGALHET_AT(mirgalhet_row, speed, 12);
+MIRGALHET_AT(mirgalhet_row, a, 16);
+MIRGALHET_AT(mirgalhet_row, b, 20);
+MIRGALHET_AT(mirgalhet_row, c, 24);
 
 #undef MIRGALHET_AT
 #undef MIRGALHET_SIZE

@@ -4,6 +4,7 @@ import os
 import re
 
 import drive
+import moments as last_moments
 
 ROOT = os.path.dirname(os.path.dirname(os.path.realpath(__file__)))
 
@@ -151,15 +152,79 @@ def calls_ticked(place):
     place.words()
 
 
+class Recorder(Place):
+    """A drive record and a record of the last moments in place."""
+
+    def __init__(self):
+        super().__init__()
+        self.moments = last_moments.empty()
+
+    def recorded_start(self, settings):
+        number, self.record, self.moments = last_moments.start(self.record, self.moments, settings)
+        return number
+
+    def recorded_step(self, ia, ib, count):
+        answer, self.moments = last_moments.step(self.record, self.moments, ia, ib, count)
+        self.record = answer.record
+        return answer.number
+
+    def recorded_clear(self):
+        number, self.record, self.moments = last_moments.clear(self.record, self.moments)
+        return number
+
+    def print_row(self, i):
+        number, words = last_moments.row(self.moments, i)
+        self.write('row %d: %d, %d %d %d %d %d %d' % (i, number, *words))
+
+    def and_rows(self, call, number):
+        self.write('%s %d, rows %d' % (call, number, last_moments.count(self.moments)))
+
+    def write_counts(self):
+        self.write('next %(next)d real %(real)d' % self.moments)
+
+
+def calls_wild(place):
+    for next_place, real in ((128, 1), (-1, 1), (0, 129), (0, -1)):
+        place.moments = {**place.moments, 'next': next_place, 'real': real}
+        place.print_row(0)
+        place.and_rows('refused step', place.recorded_step(9000, 0, 0))
+        place.write_counts()
+        place.record = {**place.record, 'tripped': False}
+        place.and_rows('step', place.recorded_step(5, 6, 7))
+        place.write_counts()
+
+
+def calls_recorded(place):
+    place.and_rows('recorded start', place.recorded_start(drive.BENCH))
+    for k in range(1, 131):
+        number = place.recorded_step(k, -2 * k, 300 * k)
+    place.and_rows('recorded step 130 times,', number)
+    for i in (-1, 0, 127, 128):
+        place.print_row(i)
+    place.and_rows('step without a record', place.step(0, 0, 0).number)
+    place.and_rows('recorded clear', place.recorded_clear())
+    place.and_rows('recorded start', place.recorded_start({**drive.BENCH, 'T': 99}))
+    place.and_rows('recorded step', place.recorded_step(9000, 0, 0))
+    place.and_rows('recorded step', place.recorded_step(0, 0, 0))
+    place.print_row(127)
+    place.and_rows('recorded clear', place.recorded_clear())
+    calls_wild(place)
+    place.record = {**place.record, 'angle': 65536}
+    place.and_rows('recorded step', place.recorded_step(0, 0, 0))
+    place.and_rows('recorded clear', place.recorded_clear())
+    place.and_rows('recorded start', place.recorded_start(drive.BENCH))
+
+
 def calls():
     """What examples/calls.c writes; its functions have the same names here, after calls_."""
-    place = Place()
+    place = Recorder()
     place.row(0, 0, 0)
     place.write('start %d' % place.start(drive.BENCH))
     calls_rows(place)
     calls_cleared(place)
     calls_broken(place)
     calls_ticked(place)
+    calls_recorded(place)
     return text_of(place.lines)
 
 
@@ -197,3 +262,41 @@ def interrupt():
     station.target(2048)
     station.periods(samples[6:])
     return text_of(station.lines)
+
+
+# examples/moments.c
+
+class Desk(Recorder):
+    """The station on a desk, with a record of the last moments."""
+
+    def period(self, k):
+        """The number of the k-th step."""
+        return self.recorded_step(k * k * 2 // 5, -7 * k, 2 * k * k % 65536)
+
+    def rows(self):
+        self.write('rows: %d' % last_moments.count(self.moments))
+
+    def print_row_after_a_period(self, i, k):
+        self.period(k)
+        number, words = last_moments.row(self.moments, i)
+        self.write('row %d: ' % i + ('ia %d ib %d speed %d compares %d %d %d' % words if number == 0 else 'number %d' % number))
+
+
+def moments():
+    """What examples/moments.c writes."""
+    desk = Desk()
+    desk.write('start %d' % desk.recorded_start(drive.BENCH))
+    desk.target(2048)
+    k, refused = 0, 0
+    while refused == 0:
+        refused = desk.period(k)
+        k += 1
+    desk.write('trip: number %d, after %d accepted steps' % (refused, k - 1))
+    desk.rows()
+    count = last_moments.count(desk.moments)
+    desk.print_row_after_a_period(0, k)
+    for i in range(count - 8, count + 1):
+        desk.print_row_after_a_period(i, k + i)
+    desk.write('clear %d' % desk.recorded_clear())
+    desk.rows()
+    return text_of(desk.lines)

@@ -4,10 +4,13 @@ Those that change little of a rule call the right one, which is kept under its o
 """
 
 import drive
+import moments
 
 right_tick = drive.tick
 right_refusal = drive.refusal
 right_clear = drive.clear
+right_stored = moments.stored
+right_row = moments.row
 
 
 def towards_zero(number, divisor):
@@ -160,4 +163,107 @@ WRONG_RULES = [
     ('the sine of the nearest entry', 'sine', sine_of_the_nearest_entry),
     ('the gain law not looked at', 'refusal', refusal_without_the_gain_law),
     ('a clear that keeps the target', 'clear', clear_keeps_the_target),
+]
+
+
+# The last moments
+
+def newest_first(next_place, _, i):
+    return (next_place - 1 - i) % 128
+
+
+def step_that_stores_when_refused(record, recorded, ia, ib, count):
+    answer = drive.step(record, ia, ib, count)
+    return answer, moments.stored(recorded, moments.row_of(ia, ib, answer))
+
+
+def step_with_the_speed_before(record, recorded, ia, ib, count):
+    answer = drive.step(record, ia, ib, count)
+    row = ia, ib, record['speed'], *answer.compares
+    return answer, (moments.stored(recorded, row) if answer.number == 0 else recorded)
+
+
+def counts_up_to_127(next_place, real):
+    return (next_place + 1) % 128, min(real + 1, 127)
+
+
+def counts_without_a_turn(next_place, real):
+    return min(next_place + 1, 127), min(real + 1, 128)
+
+
+def clear_that_keeps_the_rows(record, recorded):
+    return (*drive.clear(record), recorded)
+
+
+def clear_of_the_counts_alone(record, recorded):
+    number, after = drive.clear(record)
+    return number, after, ({**recorded, 'next': 0, 'real': 0} if number == 0 else recorded)
+
+
+def clear_that_empties_when_refused(record, _):
+    return (*drive.clear(record), moments.empty())
+
+
+def start_that_empties_when_refused(record, _, settings):
+    number, made = drive.make(settings)
+    return number, (made if number == 0 else record), moments.empty()
+
+
+def start_that_keeps_the_rows(record, recorded, settings):
+    number, made = drive.make(settings)
+    return number, (made if number == 0 else record), recorded
+
+
+def counts_by_next_alone(recorded):
+    return (recorded['next'], recorded['real']) if 0 <= recorded['next'] <= 127 else (0, 0)
+
+
+def counts_by_real_alone(recorded):
+    return (recorded['next'], recorded['real']) if 0 <= recorded['real'] <= 128 else (0, 0)
+
+
+def counts_each_by_itself(recorded):
+    next_place, real = recorded['next'], recorded['real']
+    return (next_place if 0 <= next_place <= 127 else 0), (real if 0 <= real <= 128 else 0)
+
+
+def has_wild_counts(recorded):
+    return not (0 <= recorded['next'] <= 127 and 0 <= recorded['real'] <= 128)
+
+
+def stored_among_the_old_rows(recorded, row):
+    """On wild counts the words that the rings have become rows."""
+    return right_stored({**recorded, 'next': 0, 'real': 128} if has_wild_counts(recorded) else recorded, row)
+
+
+def stored_in_an_empty_record(recorded, row):
+    """On wild counts the words at the other places become 0."""
+    return right_stored(moments.empty() if has_wild_counts(recorded) else recorded, row)
+
+
+def row_past_the_end(recorded, i):
+    """With 19 come the words of the place at which the row would stand."""
+    number, words = right_row(recorded, i)
+    place = moments.place_of_row(*moments.counts(recorded), i)
+    return number, (words if number == 0 else tuple(recorded[name][place] for name in moments.RINGS))
+
+
+# The same for the rules in moments.py.
+WRONG_MOMENTS = [
+    ('rows newest first', 'place_of_row', newest_first),
+    ('a refused step adds a row', 'step', step_that_stores_when_refused),
+    ('the speed before the step', 'step', step_with_the_speed_before),
+    ('the ring forgets at 127', 'counts_after', counts_up_to_127),
+    ('the ring does not turn', 'counts_after', counts_without_a_turn),
+    ('a clear that keeps the rows', 'clear', clear_that_keeps_the_rows),
+    ('a clear that sets the counts alone to 0', 'clear', clear_of_the_counts_alone),
+    ('a refused clear empties', 'clear', clear_that_empties_when_refused),
+    ('a refused start empties', 'start', start_that_empties_when_refused),
+    ('a start that keeps the rows', 'start', start_that_keeps_the_rows),
+    ('of wild counts only next looked at', 'counts', counts_by_next_alone),
+    ('of wild counts only real looked at', 'counts', counts_by_real_alone),
+    ('of wild counts each 0 by itself', 'counts', counts_each_by_itself),
+    ('a step on wild counts keeps the old rows', 'stored', stored_among_the_old_rows),
+    ('a step on wild counts empties the other places', 'stored', stored_in_an_empty_record),
+    ('with 19 the words that stand there', 'row', row_past_the_end),
 ]

@@ -29,7 +29,7 @@ fn stepped_drive(s: Stepped) -> Drive
     s.drive
 }
 
-fn output_of(s: Stepped) -> Output
+pub fn output_of(s: Stepped) -> Output
     ensures { λ r. ⌜ r ≡ outputOf s ⌝ }
 {
     Output {
@@ -43,20 +43,20 @@ fn output_of(s: Stepped) -> Output
     }
 }
 
-fn answered_drive(a: Answered) -> Drive
+pub fn answered_drive(a: Answered) -> Drive
     ensures { λ r. ⌜ r ≡ a .drive ⌝ }
 {
     a.drive
 }
 
-fn answered_number(a: Answered) -> i32
+pub fn answered_number(a: Answered) -> i32
     ensures { λ r. ⌜ r ≡ a .number ⌝ }
 {
     a.number
 }
 
 // A fresh drive with these settings, or the drive as it is and the number that refuses them.
-fn started(d: Drive, s: Settings) -> Answered
+pub fn started(d: Drive, s: Settings) -> Answered
     ensures { λ r. ⌜ r ≡ startedOf d s ⌝ }
 {
     let m = drive::make(s);

@@ -7,7 +7,8 @@ use Prim.Native.Nat.{ℕ}
 use contract.Lifetimes.{Lfts}
 use borrow.Fn.Kinds.{PK, RK, Dens, resT, endedOf, In, Out}
 use denote.Triple.Clauses.{AtExit}
-use Rattle.promises.specs.Settled.{Settled, CheckSettled, FreshSettled, MakeSettled, NumberSettled, StepSettled, TargetSettled, ClearSettled, RunSettled}
+use Rattle.promises.specs.Settled.{Settled, CheckSettled, FreshSettled, MakeSettled, NumberSettled, StepSettled, TargetSettled, ClearSettled}
+use Rattle.promises.specs.Settled.{RunSettled, EmptySettled, RecordedStepSettled, RecordedClearSettled, CountSettled, RowSettled}
 
 settled : {n : ℕ} {ps : List (PK n)} {r : RK n} {asks : In n ps} {ensures : Out n ps r} {B : Type 0}
     {outcome : (κs : Lfts n) → resT r κs .Denot → AtExit (endedOf n ps r) κs → B} {definition : (κs : Lfts n) → Dens κs ps → B}
@@ -37,6 +38,21 @@ target-settled = settled (λ κs a. tt) (λ κs a u x. (λ p. p, λ p. p))
 pub clear-settled : ClearSettled
 clear-settled = settled (λ κs a. tt) (λ κs a u x. (λ p. p, λ p. p))
 
+pub empty-settled : EmptySettled
+empty-settled = settled (λ κs a. tt) (λ κs a u x. (λ p. p, λ p. p))
+
+pub recorded-step-settled : RecordedStepSettled
+recorded-step-settled = settled (λ κs a. tt) (λ κs a u x. (λ p. p, λ p. p))
+
+pub recorded-clear-settled : RecordedClearSettled
+recorded-clear-settled = settled (λ κs a. tt) (λ κs a u x. (λ p. p, λ p. p))
+
+pub count-settled : CountSettled
+count-settled = settled (λ κs a. tt) (λ κs a u x. (λ p. p, λ p. p))
+
+pub row-settled : RowSettled
+row-settled = settled (λ κs a. tt) (λ κs a u x. (λ p. p, λ p. p))
+
 -- two equations are one of the pair
 module _ {A B : Type 0} {u v : A} {d e : B} where
   pub paired : (u ≡ v) × (d ≡ e) → _≡_ {A = A × B} (u, d) (v, e)
@@ -44,6 +60,14 @@ module _ {A B : Type 0} {u v : A} {d e : B} where
 
   pub parted : _≡_ {A = A × B} (u, d) (v, e) → (u ≡ v) × (d ≡ e)
   parted p = (ap (λ (r : A × B). r .0) p, ap (λ (r : A × B). r .1) p)
+
+-- and three are one of the pair of the first and that of the others
+module _ {A B C : Type 0} {u v : A} {d e : B} {m n : C} where
+  pub tripled : (u ≡ v) × ((d ≡ e) × (m ≡ n)) → _≡_ {A = A × (B × C)} (u, (d, m)) (v, (e, n))
+  tripled p = paired (p .0, paired (p .1))
+
+  pub triparted : _≡_ {A = A × (B × C)} (u, (d, m)) (v, (e, n)) → (u ≡ v) × ((d ≡ e) × (m ≡ n))
+  triparted p = let q = parted p in (q .0, parted (q .1))
 
 pub run-settled : RunSettled
 run-settled = settled (λ κs a. tt) (λ κs a u x. (paired, parted))

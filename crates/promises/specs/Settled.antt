@@ -4,7 +4,7 @@ use mathlib.Core.Path.{_≡_}
 use mathlib.Core.Logic.{_↔_}
 use mathlib.Core.List.{List}
 use Prim.Native.Nat.{ℕ}
-use lib.IntN.{ℤ}
+use lib.IntN.{ℤ, pos}
 use contract.Lifetimes.{Lfts}
 use borrow.Fn.Kinds.{PK, RK, Dens, resT, endedOf, In, Out}
 use denote.Triple.Clauses.{AtExit}
@@ -25,9 +25,20 @@ use Rattle.drive.proofs.clear.Reads as clear
 use Rattle.drive.proofs.clear.Kinds as clear-kinds
 use Rattle.rows.proofs.run.Reads as run
 use Rattle.rows.proofs.run.Kinds as run-kinds
+use Rattle.moments.proofs.empty.Reads as empty
+use Rattle.moments.proofs.empty.Kinds as empty-kinds
+use Rattle.moments.proofs.recorded_step.Reads as recorded_step
+use Rattle.moments.proofs.recorded_step.Kinds as recorded_step-kinds
+use Rattle.moments.proofs.recorded_clear.Reads as recorded_clear
+use Rattle.moments.proofs.recorded_clear.Kinds as recorded_clear-kinds
+use Rattle.moments.proofs.real_rows.Reads as real_rows
+use Rattle.moments.proofs.real_rows.Kinds as real_rows-kinds
+use Rattle.moments.proofs.moment.Reads as moment
+use Rattle.moments.proofs.moment.Kinds as moment-kinds
 use Rattle.settings.specs.Settings.{checked}
 use Rattle.drive.specs.Calls.{fresh as freshOf, made, madeNumber, stepped, targeted, cleared}
 use Rattle.rows.specs.Rows.{runOf, outputAfter}
+use Rattle.moments.specs.Moments.{none, recorded, emptied, realRows, momentAt}
 use Rattle.promises.specs.Demand1.{Run}
 
 -- a call with n lifetimes, parameters ps and result r, that asks and ensures so much. Its outcome is read of the result u and of what the parameters
@@ -71,3 +82,22 @@ lent κs x = now (x .1 .1 .0)
 abbrev pub RunSettled : Type 0
 RunSettled = Settled 2 run-kinds.ps run-kinds.r run.Pre run.Post {B = Run} (λ κs u x. (u, lent κs x))
     (λ κs a. (runOf (a .0) (now (a .1 .0)) (now (a .1 .1 .0)), outputAfter (a .0) (now (a .1 .0)) (now (a .1 .1 .0))))
+
+-- the record of the last moments: an empty one; a recorded step, of a drive, a record, ia, ib and count; a recorded clear
+abbrev pub EmptySettled : Type 0
+EmptySettled = Settled 0 empty-kinds.ps empty-kinds.r empty.Pre empty.Post (λ κs u x. u) (λ κs a. none)
+
+abbrev pub RecordedStepSettled : Type 0
+RecordedStepSettled = Settled 0 recorded_step-kinds.ps recorded_step-kinds.r recorded_step.Pre recorded_step.Post (λ κs u x. u)
+    (λ κs a. recorded (a .0) (a .1 .0) (a .1 .1 .0) (a .1 .1 .1 .0) (a .1 .1 .1 .1 .0))
+
+abbrev pub RecordedClearSettled : Type 0
+RecordedClearSettled = Settled 0 recorded_clear-kinds.ps recorded_clear-kinds.r recorded_clear.Pre recorded_clear.Post (λ κs u x. u)
+    (λ κs a. emptied (a .0) (a .1 .0))
+
+-- how many of its rows are real, and the row at a number
+abbrev pub CountSettled : Type 0
+CountSettled = Settled 0 real_rows-kinds.ps real_rows-kinds.r real_rows.Pre real_rows.Post (λ κs u x. u) (λ κs a. pos (realRows (a .0)))
+
+abbrev pub RowSettled : Type 0
+RowSettled = Settled 0 moment-kinds.ps moment-kinds.r moment.Pre moment.Post (λ κs u x. u) (λ κs a. momentAt (a .0) (a .1 .0))

@@ -1,0 +1,3 @@
+pub mod Moments
+pub mod Recordings
+pub mod Promised

@@ -1,0 +1,4 @@
+pub mod Structs
+pub mod Beside
+pub mod Looking
+pub mod Elem
