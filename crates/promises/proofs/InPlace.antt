@@ -48,13 +48,16 @@ module _ {M : Type 1} (𝓤 : URA M) where
     clear-in-place = settled (λ κs a g. id⊢ 𝓤 (emp 𝓤)) (λ κs a g u x. fact-mono 𝓤 _ _ paired) (λ κs a g u x. fact-mono 𝓤 _ _ parted)
 
     pub recorded-start-in-place : RecordedStartInPlace 𝓤 H 𝓜 𝓖 𝓡
-    recorded-start-in-place = settled (λ κs a g. id⊢ 𝓤 (emp 𝓤)) (λ κs a g u x. fact-mono 𝓤 _ _ tripled) (λ κs a g u x. fact-mono 𝓤 _ _ triparted)
+    recorded-start-in-place =
+        settled (λ κs a g. id⊢ 𝓤 (emp 𝓤)) (λ κs a g u x. fact-mono 𝓤 _ _ tripled) (λ κs a g u x. fact-mono 𝓤 _ _ triparted)
 
     pub recorded-step-in-place : RecordedStepInPlace 𝓤 H 𝓜 𝓖 𝓡
-    recorded-step-in-place = settled (λ κs a g. id⊢ 𝓤 (emp 𝓤)) (λ κs a g u x. fact-mono 𝓤 _ _ tripled) (λ κs a g u x. fact-mono 𝓤 _ _ triparted)
+    recorded-step-in-place =
+        settled (λ κs a g. id⊢ 𝓤 (emp 𝓤)) (λ κs a g u x. fact-mono 𝓤 _ _ tripled) (λ κs a g u x. fact-mono 𝓤 _ _ triparted)
 
     pub recorded-clear-in-place : RecordedClearInPlace 𝓤 H 𝓜 𝓖 𝓡
-    recorded-clear-in-place = settled (λ κs a g. id⊢ 𝓤 (emp 𝓤)) (λ κs a g u x. fact-mono 𝓤 _ _ tripled) (λ κs a g u x. fact-mono 𝓤 _ _ triparted)
+    recorded-clear-in-place =
+        settled (λ κs a g. id⊢ 𝓤 (emp 𝓤)) (λ κs a g u x. fact-mono 𝓤 _ _ tripled) (λ κs a g u x. fact-mono 𝓤 _ _ triparted)
 
     pub recorded-count-in-place : RecordedCountInPlace 𝓤 H 𝓜 𝓖 𝓡
     recorded-count-in-place = settled (λ κs a g. id⊢ 𝓤 (emp 𝓤)) (λ κs a g u x. id⊢ 𝓤 _) (λ κs a g u x. id⊢ 𝓤 _)

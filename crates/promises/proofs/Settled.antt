@@ -61,13 +61,13 @@ module _ {A B : Type 0} {u v : A} {d e : B} where
   pub parted : _≡_ {A = A × B} (u, d) (v, e) → (u ≡ v) × (d ≡ e)
   parted p = (ap (λ (r : A × B). r .0) p, ap (λ (r : A × B). r .1) p)
 
--- and three are one of the pair of the first and that of the others
+-- three are one of the pair of the first and the pair of the others
 module _ {A B C : Type 0} {u v : A} {d e : B} {m n : C} where
-  pub tripled : (u ≡ v) × ((d ≡ e) × (m ≡ n)) → _≡_ {A = A × (B × C)} (u, (d, m)) (v, (e, n))
-  tripled p = paired (p .0, paired (p .1))
+  pub tripled : (u ≡ v) × (d ≡ e) × (m ≡ n) → _≡_ {A = A × (B × C)} (u, (d, m)) (v, (e, n))
+  tripled p = paired (p .0, paired (p .1, p .2))
 
-  pub triparted : _≡_ {A = A × (B × C)} (u, (d, m)) (v, (e, n)) → (u ≡ v) × ((d ≡ e) × (m ≡ n))
-  triparted p = let q = parted p in (q .0, parted (q .1))
+  pub triparted : _≡_ {A = A × (B × C)} (u, (d, m)) (v, (e, n)) → (u ≡ v) × (d ≡ e) × (m ≡ n)
+  triparted p = let q = parted (parted p .1) in (parted p .0, q .0, q .1)
 
 pub run-settled : RunSettled
 run-settled = settled (λ κs a. tt) (λ κs a u x. (paired, parted))

@@ -328,8 +328,10 @@ module _ (kind : Kind) (X z : Word) (ps : List Word) (s r : Word) where
 
       meets : Meets 𝓤 H A (ended .signature) runs (closing 𝓤 H A ended c)
       meets =
-          walk-meets 𝓤 H A ended stayed W (goes-ref 𝓤 H A W 2 0 tt (plain (λ κs. d .row)),
-          (goes-gave-ref 𝓤 H A W 2 1 tt (plain (λ κs. X .row)), goes 2 𝓤 H A W ps)) c runs
+          walk-meets 𝓤 H A ended stayed W (
+            goes-ref 𝓤 H A W 2 0 tt (plain (λ κs. d .row)),
+            (goes-gave-ref 𝓤 H A W 2 1 tt (plain (λ κs. X .row)), goes 2 𝓤 H A W ps),
+          ) c runs
           (WpFn-mono 𝓤 H (W .laws) 𝓣 (function #f #next #keep #out)) walks
 
   -- ════ the theorem: the routine that the key #me has in γ meets the contract, if those do that the function calls

@@ -137,8 +137,14 @@ each-set (y ∷ xs) (v ∷ us) (suc j) x u s is = (s .0, each-set xs us j x u (s
 array-set : (n : ℕ) (xs : List ℤ) (j : ℕ) (x : ℤ) → Ring n xs → Is i32 x (word x ∷ []) → Ring n (set xs j x)
 array-set n xs j x p is =
     let us = set (p .0) j (word x) in
-    let q : Is (Array i32 n) (set xs j x) (arrayVal us ∷ []) = (us, ((refl, length-set xs j x ∙ p .1 .0 .1), each-set xs (p .0) j x (word x) (p .1 .1)
-    is)) in
+    let q : Is (Array i32 n) (set xs j x) (arrayVal us ∷ []) = (
+      us,
+      (
+        (refl, length-set xs j x ∙ p .1 .0 .1),
+        each-set xs (p .0) j x (word x) (p .1 .1)
+            is,
+      ),
+    ) in
     subst (Is (Array i32 n) (set xs j x)) (array-tells i32 (λ (z : ℤ). word z ∷ []) (sint-tells w32) n (set xs j x) (arrayVal us ∷ []) q) q
 
 pub ring-set : (n : ℕ) (xs : List ℤ) (j : ℕ) (x : ℤ) → Ring n (map (λ (z : ℤ). z) xs) → Is i32 x (word x ∷ []) → Ring n

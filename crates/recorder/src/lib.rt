@@ -169,5 +169,13 @@ pub extern "C" fn mirgalhet_recorded_row(m: &Moments, i: i32) -> Found
 {
     let p = ring::row_place(m.next, m.real, i);
     let at = p.at;
-    found_at(p, m.ia[at], m.ib[at], m.speed[at], m.a[at], m.b[at], m.c[at])
+    found_at(
+        p,
+        m.ia[at],
+        m.ib[at],
+        m.speed[at],
+        m.a[at],
+        m.b[at],
+        m.c[at],
+    )
 }

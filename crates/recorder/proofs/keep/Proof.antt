@@ -145,8 +145,17 @@ module _ {M : Type 1} (𝓤 : URA M) (H : Heap 𝓤) (A : Atoms 𝓤) (W : Given
 
     -- the record after the row, its machine value, and that the one stands for the other
     abbrev h′ : Moments
-    h′ = record { ia = set (h .ia) j (s .row .ia); ib = set (h .ib) j (s .row .ib); speed = set (h .speed) j (s .row .speed); a = set (h .a) j
-        (s .row .a); b = set (h .b) j (s .row .b); c = set (h .c) j (s .row .c); next = p .next; real = p .real }
+    h′ = record {
+      ia = set (h .ia) j (s .row .ia);
+      ib = set (h .ib) j (s .row .ib);
+      speed = set (h .speed) j (s .row .speed);
+      a = set (h .a) j
+          (s .row .a);
+      b = set (h .b) j (s .row .b);
+      c = set (h .c) j (s .row .c);
+      next = p .next;
+      real = p .real;
+    }
 
     h′-is : Stands (struct spot) p (struct spot .val p) → Stands (struct moments) h′ (struct moments .val h′)
     h′-is p-is =

@@ -94,7 +94,7 @@ mirgalhet-recorded-count-spec 𝓤 H 𝓜 𝓖 𝓡 =
     let 𝓣 = tablesOf 𝓤 H 𝓜 (tables 𝓤 H 𝓜 𝓡 code.env) in
     let fm = fmOf 𝓤 H (W .laws) 𝓣 in
     let known = cited 𝓤 H (Answers 𝓤 H (𝓖 .A) (number ∷ number ∷ []) number counted) 𝓜 𝓡 code.env counting.name counting.routine
-        code.calls-ring·count-in (counting-thm.met 𝓤 H 𝓜 𝓖 𝓡) in
+    code.calls-ring·count-in (counting-thm.met 𝓤 H 𝓜 𝓖 𝓡) in
     entered 𝓤 H (tripleOf 𝓤 H (𝓖 .A) f.signature (f.spec 𝓤 H (𝓖 .A) (𝓜 .mem) (𝓡 .run)))
     (tables 𝓤 H 𝓜 𝓡 code.env .C) (tables 𝓤 H 𝓜 𝓡 code.env .Λ) name code.function (code.unfolded 𝓤 H 𝓜 𝓡)
     (meets moments [] number 𝓤 H (𝓖 .A) answer (f.clauses 𝓤 H (𝓖 .A) (𝓜 .mem) (𝓡 .run)) (holds 𝓤 H (𝓖 .A) W (𝓜 .mem) (𝓡 .run))

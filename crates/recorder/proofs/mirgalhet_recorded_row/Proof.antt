@@ -164,114 +164,114 @@ module _ {M : Type 1} (𝓤 : URA M) (H : Heap 𝓤) (A : Atoms 𝓤) (W : Given
         ∷ word (read h-is (h .a)) ∷ word (read h-is (h .b)) ∷ word (read h-is (h .c)) ∷ []) (struct found) (y h-is)) where
       walk : Goes moments (number ∷ []) (struct found) 𝓤 H A answer (f.clauses 𝓤 H A at-mem run) holds W κ q b o γ h (i, tt) tt C Λ code.function
       walk =
-        qed W ((‵ (flft κ q) ⊛ ‵ ftrue) ∷ ‵ (owns (ShrRef (named 0) κ MT.the-row ∷ i32 ∷ [])
-        (record { ptr = (b, o); name = γ; now = h }, (i, tt)) (vptr b o ∷ [], (number .val i ∷ [], tt))) ∷ []) ∵
-        split ! $ move ! (2 ∷ []) $ fsplit ! $ fsplit3 ! $ drop ! $ keep ! (0 ∷ 1 ∷ 3 ∷ []) $
-        -- [the record's last value; the fractured borrow; the token]
-        enter ! C Λ code.function (vptr b o ∷ number .val i ∷ []) _ $
-        alloc1 ! (λ l0. alloc1 ! (λ l1. alloc1 ! (λ l2. alloc1 ! (λ l3. alloc1 ! (λ l4. alloc1 ! (λ l5. alloc1 ! (λ l6. alloc1 ! (λ l7.
-        alloc1 ! (λ l8. alloc1 ! (λ l9. alloc1 ! (λ l10. alloc1 ! (λ l11. alloc1 ! (λ l12. alloc1 ! (λ l13. alloc1 ! (λ l14. alloc1 ! (λ
-        l15. alloc1 ! (λ l16. alloc1 ! (λ l17. alloc1 ! (λ l18. alloc1 ! (λ l19. alloc1 ! (λ l20. alloc1 ! (λ l21. alloc1 ! (λ l22. alloc1 !
-        (λ l23. alloc1 ! (λ l24. alloc1 ! (λ l25. alloc1 ! (λ l26. alloc1 ! (λ l27. alloc1 ! (λ l28. alloc0 ! $ params1 ! $
-        pass1 ! (init ! 54 refl (tt, tt)) $ pass1 ! (init ! 52 refl (number .typed 𝓤 H A W i _ i-is)) $ pass0 ! $
-        move ! (59 ∷ 60 ∷ []) $ looks ! tt MT.the-row (Is MT.the-row) (shows 𝓤 H A MT.the-row) (λ z. struct moments .val z ∷ [])
-        (struct moments .tells) (LL.copy (moments .type) (moments .copies) 𝓤 H A W) h b o (λ q′ vs.
-        spelt ! MT.the-row (Is MT.the-row) (shows 𝓤 H A MT.the-row) (λ z. struct moments .val z ∷ []) (struct moments .tells) q′ h vs b o $
-        move ! (1 ∷ []) $ peeks ! MT.the-row (Is MT.the-row) (shows 𝓤 H A MT.the-row) h _ (λ h-is. move ! (1 ∷ 0 ∷ []) $
-        -- [a share of the record's cell; what it owns; what shuts it; the fractured borrow; _28; …; _0; …; its last value]
-        let g = fields-h h-is .1 .1 .1 .1 .1 .1 in
-        assigns ! (of-opd ! (load ! (from ! (hop ! (look ! 58 refl) (fld ! {τ = tyInt w32} {d = 3072} refl (stop !))))
-        (look-in ! 0 (sub ! 6 {τ = tyInt w32} {d = 3072} refl (whole !))))) (from ! (stop !)) (init ! 50 refl (number .typed 𝓤 H A W (h .next) _ (g .0))) $
-        assigns ! (of-opd ! (load ! (from ! (hop ! (look ! 58 refl) (fld ! {τ = tyInt w32} {d = 3076} refl (stop !))))
-        (look-in ! 0 (sub ! 7 {τ = tyInt w32} {d = 3076} refl (whole !))))) (from ! (stop !))
-        (init ! 48 refl (number .typed 𝓤 H A W (h .real) _ (g .1 .0))) $
-        calls-plain ! fm (struct place) p (number .val (h .next) ∷ number .val (h .real) ∷ number .val i ∷ []) (finds (g .0) (g .1 .0))
-        (and-then ! (load ! (from ! (stop !)) (look ! 51 refl)) (and-then ! (load ! (from ! (stop !)) (look ! 49 refl))
-        (and-then ! (load ! (from ! (stop !)) (look ! 57 refl)) (no-more !)))) (λ v₁ is₁.
-        land ! (from ! (stop !)) (init ! 54 refl (struct place .typed 𝓤 H A W p v₁ is₁)) $
-        rewrite ! 54 (λ (u : Val). ‵ (fat fullShare (struct place .ty) l3 0 u)) (ap only (struct place .tells p (v₁ ∷ []) is₁)) refl $
-        let p-is : Stands (struct place) p (struct place .val p) = subst (Is PT.the-row p) (struct place .tells p (v₁ ∷ []) is₁) is₁ in
-        let p-fields = fields-of place p p-is in
-        assigns ! (of-opd ! (load ! (from ! (fld ! {τ = tyInt w64} {d = 8} refl (stop !)))
-        (look-in ! 54 (sub ! 1 {τ = tyInt w64} {d = 8} refl (whole !))))) (from ! (stop !))
-        (init ! 52 refl (uint-lawful 𝓤 H A W w64 .typed (j h-is) _ (p-fields .1 .0) .0)) $
-        assigns ! (bin ! (load ! (from ! (stop !)) (look ! 52 refl)) (lit ! tt) (record { fits = far h-is })) (from ! (stop !))
-        (init ! 46 refl (tt, record { fits = far h-is })) $
-        assigns ! (addr ! (from ! (hop ! (look ! 58 refl) (fld ! {τ = ring} {d = 0} refl (stop !))))) (from ! (stop !)) (init ! 44 refl (tt, tt)) $
-        assigns ! (bin ! (load ! (from ! (stop !)) (look ! 44 refl)) (load ! (from ! (stop !)) (look ! 46 refl)) tt) (from ! (stop !))
-        (init ! 42 refl (tt, tt)) $
-        assigns ! (of-opd ! (load ! (from ! (hop ! (look ! 42 refl) (stop !))) (look-in ! 0 (elem ! (words (h .ia)) (j h-is)
-        (inside h-is (h .ia) (long-h h-is .ia)) (words-long (h .ia) ∙ long-h h-is .ia) (sub ! 0 {τ = ring} {d = 0} refl (whole !))))))
-        (from ! (stop !)) (store ! 50 refl (read-fits h-is (h .ia) (long-h h-is .ia) (ring-ia h-is))) $
-        rewrite ! 50 (λ (u : Val). ‵ (fat fullShare (tyInt w32) l5 0 u)) (read-is h-is (h .ia) (long-h h-is .ia)) refl $
-        assigns ! (bin ! (load ! (from ! (stop !)) (look ! 52 refl)) (lit ! tt) (record { fits = far h-is })) (from ! (stop !))
-        (init ! 40 refl (tt, record { fits = far h-is })) $
-        assigns ! (addr ! (from ! (hop ! (look ! 58 refl) (fld ! {τ = ring} {d = 512} refl (stop !))))) (from ! (stop !)) (init ! 38 refl (tt, tt)) $
-        assigns ! (bin ! (load ! (from ! (stop !)) (look ! 38 refl)) (load ! (from ! (stop !)) (look ! 40 refl)) tt) (from ! (stop !))
-        (init ! 36 refl (tt, tt)) $
-        assigns ! (of-opd ! (load ! (from ! (hop ! (look ! 36 refl) (stop !))) (look-in ! 0 (elem ! (words (h .ib)) (j h-is)
-        (inside h-is (h .ib) (long-h h-is .ib)) (words-long (h .ib) ∙ long-h h-is .ib) (sub ! 1 {τ = ring} {d = 512} refl (whole !))))))
-        (from ! (stop !)) (store ! 48 refl (read-fits h-is (h .ib) (long-h h-is .ib) (ring-ib h-is))) $
-        rewrite ! 48 (λ (u : Val). ‵ (fat fullShare (tyInt w32) l6 0 u)) (read-is h-is (h .ib) (long-h h-is .ib)) refl $
-        assigns ! (bin ! (load ! (from ! (stop !)) (look ! 52 refl)) (lit ! tt) (record { fits = far h-is })) (from ! (stop !))
-        (init ! 34 refl (tt, record { fits = far h-is })) $
-        assigns ! (addr ! (from ! (hop ! (look ! 58 refl) (fld ! {τ = ring} {d = 1024} refl (stop !))))) (from ! (stop !)) (init ! 32 refl (tt, tt)) $
-        assigns ! (bin ! (load ! (from ! (stop !)) (look ! 32 refl)) (load ! (from ! (stop !)) (look ! 34 refl)) tt) (from ! (stop !))
-        (init ! 30 refl (tt, tt)) $
-        assigns ! (of-opd ! (load ! (from ! (hop ! (look ! 30 refl) (stop !))) (look-in ! 0 (elem ! (words (h .speed)) (j h-is)
-        (inside h-is (h .speed) (long-h h-is .speed)) (words-long (h .speed) ∙ long-h h-is .speed) (sub ! 2 {τ = ring} {d = 1024} refl (whole !))))))
-        (from ! (stop !)) (init ! 28 refl (read-fits h-is (h .speed) (long-h h-is .speed) (ring-speed h-is))) $
-        rewrite ! 28 (λ (u : Val). ‵ (fat fullShare (tyInt w32) l16 0 u)) (read-is h-is (h .speed) (long-h h-is .speed)) refl $
-        assigns ! (bin ! (load ! (from ! (stop !)) (look ! 52 refl)) (lit ! tt) (record { fits = far h-is })) (from ! (stop !))
-        (init ! 26 refl (tt, record { fits = far h-is })) $
-        assigns ! (addr ! (from ! (hop ! (look ! 58 refl) (fld ! {τ = ring} {d = 1536} refl (stop !))))) (from ! (stop !)) (init ! 24 refl (tt, tt)) $
-        assigns ! (bin ! (load ! (from ! (stop !)) (look ! 24 refl)) (load ! (from ! (stop !)) (look ! 26 refl)) tt) (from ! (stop !))
-        (init ! 22 refl (tt, tt)) $
-        assigns ! (of-opd ! (load ! (from ! (hop ! (look ! 22 refl) (stop !))) (look-in ! 0 (elem ! (words (h .a)) (j h-is)
-        (inside h-is (h .a) (long-h h-is .a)) (words-long (h .a) ∙ long-h h-is .a) (sub ! 3 {τ = ring} {d = 1536} refl (whole !))))))
-        (from ! (stop !)) (init ! 20 refl (read-fits h-is (h .a) (long-h h-is .a) (ring-a h-is))) $
-        rewrite ! 20 (λ (u : Val). ‵ (fat fullShare (tyInt w32) l20 0 u)) (read-is h-is (h .a) (long-h h-is .a)) refl $
-        assigns ! (bin ! (load ! (from ! (stop !)) (look ! 52 refl)) (lit ! tt) (record { fits = far h-is })) (from ! (stop !))
-        (init ! 18 refl (tt, record { fits = far h-is })) $
-        assigns ! (addr ! (from ! (hop ! (look ! 58 refl) (fld ! {τ = ring} {d = 2048} refl (stop !))))) (from ! (stop !)) (init ! 16 refl (tt, tt)) $
-        assigns ! (bin ! (load ! (from ! (stop !)) (look ! 16 refl)) (load ! (from ! (stop !)) (look ! 18 refl)) tt) (from ! (stop !))
-        (init ! 14 refl (tt, tt)) $
-        assigns ! (of-opd ! (load ! (from ! (hop ! (look ! 14 refl) (stop !))) (look-in ! 0 (elem ! (words (h .b)) (j h-is)
-        (inside h-is (h .b) (long-h h-is .b)) (words-long (h .b) ∙ long-h h-is .b) (sub ! 4 {τ = ring} {d = 2048} refl (whole !))))))
-        (from ! (stop !)) (init ! 12 refl (read-fits h-is (h .b) (long-h h-is .b) (ring-b h-is))) $
-        rewrite ! 12 (λ (u : Val). ‵ (fat fullShare (tyInt w32) l24 0 u)) (read-is h-is (h .b) (long-h h-is .b)) refl $
-        assigns ! (bin ! (load ! (from ! (stop !)) (look ! 52 refl)) (lit ! tt) (record { fits = far h-is })) (from ! (stop !))
-        (init ! 10 refl (tt, record { fits = far h-is })) $
-        assigns ! (addr ! (from ! (hop ! (look ! 58 refl) (fld ! {τ = ring} {d = 2560} refl (stop !))))) (from ! (stop !)) (init ! 8 refl (tt, tt)) $
-        assigns ! (bin ! (load ! (from ! (stop !)) (look ! 8 refl)) (load ! (from ! (stop !)) (look ! 10 refl)) tt) (from ! (stop !))
-        (init ! 6 refl (tt, tt)) $
-        assigns ! (of-opd ! (load ! (from ! (hop ! (look ! 6 refl) (stop !))) (look-in ! 0 (elem ! (words (h .c)) (j h-is)
-        (inside h-is (h .c) (long-h h-is .c)) (words-long (h .c) ∙ long-h h-is .c) (sub ! 5 {τ = ring} {d = 2560} refl (whole !))))))
-        (from ! (stop !)) (init ! 4 refl (read-fits h-is (h .c) (long-h h-is .c) (ring-c h-is))) $
-        rewrite ! 4 (λ (u : Val). ‵ (fat fullShare (tyInt w32) l28 0 u)) (read-is h-is (h .c) (long-h h-is .c)) refl $
-        shuts ! tt MT.the-row q′ h (struct moments .val h ∷ []) b o $
-        -- [the token; the fractured borrow; _28; …; _0; …; its last value]
-        calls-plain ! fm (struct found) (y h-is) _ (makes h-is p-is)
-        (and-then ! (load ! (from ! (stop !)) (look ! 53 refl)) (and-then ! (load ! (from ! (stop !)) (look ! 49 refl)) (and-then ! (load !
-        (from ! (stop !)) (look ! 47 refl)) (and-then ! (load ! (from ! (stop !)) (look ! 27 refl)) (and-then ! (load ! (from ! (stop !))
-        (look ! 19 refl)) (and-then ! (load ! (from ! (stop !)) (look ! 11 refl)) (and-then ! (load ! (from ! (stop !)) (look ! 3 refl))
-        (no-more !)))))))) (λ v is.
-        land ! (from ! (stop !)) (init ! 58 refl (struct found .typed 𝓤 H A W (y h-is) v is)) $ returns ! (look ! 58 refl) $
-        forget ! 58 refl $ move ! (58 ∷ 59 ∷ []) $ free1 ! $ forget ! 56 refl $ move ! (56 ∷ 57 ∷ []) $ free1 ! $ forget ! 54 refl $ move !
-        (54 ∷ 55 ∷ []) $ free1 ! $ forget ! 52 refl $ move ! (52 ∷ 53 ∷ []) $ free1 ! $ forget ! 50 refl $ move ! (50 ∷ 51 ∷ []) $ free1 ! $
-        forget ! 48 refl $ move ! (48 ∷ 49 ∷ []) $ free1 ! $ forget ! 46 refl $ move ! (46 ∷ 47 ∷ []) $ free1 ! $ forget ! 44 refl $ move !
-        (44 ∷ 45 ∷ []) $ free1 ! $ forget ! 42 refl $ move ! (42 ∷ 43 ∷ []) $ free1 ! $ forget ! 40 refl $ move ! (40 ∷ 41 ∷ []) $ free1 ! $
-        forget ! 38 refl $ move ! (38 ∷ 39 ∷ []) $ free1 ! $ forget ! 36 refl $ move ! (36 ∷ 37 ∷ []) $ free1 ! $ forget ! 34 refl $ move !
-        (34 ∷ 35 ∷ []) $ free1 ! $ forget ! 32 refl $ move ! (32 ∷ 33 ∷ []) $ free1 ! $ forget ! 30 refl $ move ! (30 ∷ 31 ∷ []) $ free1 ! $
-        forget ! 28 refl $ move ! (28 ∷ 29 ∷ []) $ free1 ! $ forget ! 26 refl $ move ! (26 ∷ 27 ∷ []) $ free1 ! $ forget ! 24 refl $ move !
-        (24 ∷ 25 ∷ []) $ free1 ! $ forget ! 22 refl $ move ! (22 ∷ 23 ∷ []) $ free1 ! $ forget ! 20 refl $ move ! (20 ∷ 21 ∷ []) $ free1 ! $
-        forget ! 18 refl $ move ! (18 ∷ 19 ∷ []) $ free1 ! $ forget ! 16 refl $ move ! (16 ∷ 17 ∷ []) $ free1 ! $ forget ! 14 refl $ move !
-        (14 ∷ 15 ∷ []) $ free1 ! $ forget ! 12 refl $ move ! (12 ∷ 13 ∷ []) $ free1 ! $ forget ! 10 refl $ move ! (10 ∷ 11 ∷ []) $ free1 ! $
-        forget ! 8 refl $ move ! (8 ∷ 9 ∷ []) $ free1 ! $ forget ! 6 refl $ move ! (6 ∷ 7 ∷ []) $ free1 ! $ forget ! 4 refl $ move ! (4 ∷ 5
-        ∷ []) $ free1 ! $ forget ! 2 refl $ move ! (2 ∷ 3 ∷ []) $ free1 ! $ free0 ! $
-        keep ! (2 ∷ 1 ∷ 0 ∷ []) $
-        by ! (exits moments (number ∷ []) (struct found) 𝓤 H A answer (f.clauses 𝓤 H A at-mem run) holds W κ q b o γ h (i, tt) tt v
-        (subst (λ (z : Found). Stands (struct found) z v) (y-is h-is) is)))))))))))))))))))))))))))))))))))
+          qed W ((‵ (flft κ q) ⊛ ‵ ftrue) ∷ ‵ (owns (ShrRef (named 0) κ MT.the-row ∷ i32 ∷ [])
+          (record { ptr = (b, o); name = γ; now = h }, (i, tt)) (vptr b o ∷ [], (number .val i ∷ [], tt))) ∷ []) ∵
+          split ! $ move ! (2 ∷ []) $ fsplit ! $ fsplit3 ! $ drop ! $ keep ! (0 ∷ 1 ∷ 3 ∷ []) $
+          -- [the record's last value; the fractured borrow; the token]
+          enter ! C Λ code.function (vptr b o ∷ number .val i ∷ []) _ $
+          alloc1 ! (λ l0. alloc1 ! (λ l1. alloc1 ! (λ l2. alloc1 ! (λ l3. alloc1 ! (λ l4. alloc1 ! (λ l5. alloc1 ! (λ l6. alloc1 ! (λ l7.
+          alloc1 ! (λ l8. alloc1 ! (λ l9. alloc1 ! (λ l10. alloc1 ! (λ l11. alloc1 ! (λ l12. alloc1 ! (λ l13. alloc1 ! (λ l14. alloc1 ! (λ
+          l15. alloc1 ! (λ l16. alloc1 ! (λ l17. alloc1 ! (λ l18. alloc1 ! (λ l19. alloc1 ! (λ l20. alloc1 ! (λ l21. alloc1 ! (λ l22. alloc1 !
+          (λ l23. alloc1 ! (λ l24. alloc1 ! (λ l25. alloc1 ! (λ l26. alloc1 ! (λ l27. alloc1 ! (λ l28. alloc0 ! $ params1 ! $
+          pass1 ! (init ! 54 refl (tt, tt)) $ pass1 ! (init ! 52 refl (number .typed 𝓤 H A W i _ i-is)) $ pass0 ! $
+          move ! (59 ∷ 60 ∷ []) $ looks ! tt MT.the-row (Is MT.the-row) (shows 𝓤 H A MT.the-row) (λ z. struct moments .val z ∷ [])
+          (struct moments .tells) (LL.copy (moments .type) (moments .copies) 𝓤 H A W) h b o (λ q′ vs.
+          spelt ! MT.the-row (Is MT.the-row) (shows 𝓤 H A MT.the-row) (λ z. struct moments .val z ∷ []) (struct moments .tells) q′ h vs b o $
+          move ! (1 ∷ []) $ peeks ! MT.the-row (Is MT.the-row) (shows 𝓤 H A MT.the-row) h _ (λ h-is. move ! (1 ∷ 0 ∷ []) $
+          -- [a share of the record's cell; what it owns; what shuts it; the fractured borrow; _28; …; _0; …; its last value]
+          let g = fields-h h-is .1 .1 .1 .1 .1 .1 in
+          assigns ! (of-opd ! (load ! (from ! (hop ! (look ! 58 refl) (fld ! {τ = tyInt w32} {d = 3072} refl (stop !))))
+          (look-in ! 0 (sub ! 6 {τ = tyInt w32} {d = 3072} refl (whole !))))) (from ! (stop !)) (init ! 50 refl (number .typed 𝓤 H A W (h .next) _ (g .0))) $
+          assigns ! (of-opd ! (load ! (from ! (hop ! (look ! 58 refl) (fld ! {τ = tyInt w32} {d = 3076} refl (stop !))))
+          (look-in ! 0 (sub ! 7 {τ = tyInt w32} {d = 3076} refl (whole !))))) (from ! (stop !))
+          (init ! 48 refl (number .typed 𝓤 H A W (h .real) _ (g .1 .0))) $
+          calls-plain ! fm (struct place) p (number .val (h .next) ∷ number .val (h .real) ∷ number .val i ∷ []) (finds (g .0) (g .1 .0))
+          (and-then ! (load ! (from ! (stop !)) (look ! 51 refl)) (and-then ! (load ! (from ! (stop !)) (look ! 49 refl))
+          (and-then ! (load ! (from ! (stop !)) (look ! 57 refl)) (no-more !)))) (λ v₁ is₁.
+          land ! (from ! (stop !)) (init ! 54 refl (struct place .typed 𝓤 H A W p v₁ is₁)) $
+          rewrite ! 54 (λ (u : Val). ‵ (fat fullShare (struct place .ty) l3 0 u)) (ap only (struct place .tells p (v₁ ∷ []) is₁)) refl $
+          let p-is : Stands (struct place) p (struct place .val p) = subst (Is PT.the-row p) (struct place .tells p (v₁ ∷ []) is₁) is₁ in
+          let p-fields = fields-of place p p-is in
+          assigns ! (of-opd ! (load ! (from ! (fld ! {τ = tyInt w64} {d = 8} refl (stop !)))
+          (look-in ! 54 (sub ! 1 {τ = tyInt w64} {d = 8} refl (whole !))))) (from ! (stop !))
+          (init ! 52 refl (uint-lawful 𝓤 H A W w64 .typed (j h-is) _ (p-fields .1 .0) .0)) $
+          assigns ! (bin ! (load ! (from ! (stop !)) (look ! 52 refl)) (lit ! tt) (record { fits = far h-is })) (from ! (stop !))
+          (init ! 46 refl (tt, record { fits = far h-is })) $
+          assigns ! (addr ! (from ! (hop ! (look ! 58 refl) (fld ! {τ = ring} {d = 0} refl (stop !))))) (from ! (stop !)) (init ! 44 refl (tt, tt)) $
+          assigns ! (bin ! (load ! (from ! (stop !)) (look ! 44 refl)) (load ! (from ! (stop !)) (look ! 46 refl)) tt) (from ! (stop !))
+          (init ! 42 refl (tt, tt)) $
+          assigns ! (of-opd ! (load ! (from ! (hop ! (look ! 42 refl) (stop !))) (look-in ! 0 (elem ! (words (h .ia)) (j h-is)
+          (inside h-is (h .ia) (long-h h-is .ia)) (words-long (h .ia) ∙ long-h h-is .ia) (sub ! 0 {τ = ring} {d = 0} refl (whole !))))))
+          (from ! (stop !)) (store ! 50 refl (read-fits h-is (h .ia) (long-h h-is .ia) (ring-ia h-is))) $
+          rewrite ! 50 (λ (u : Val). ‵ (fat fullShare (tyInt w32) l5 0 u)) (read-is h-is (h .ia) (long-h h-is .ia)) refl $
+          assigns ! (bin ! (load ! (from ! (stop !)) (look ! 52 refl)) (lit ! tt) (record { fits = far h-is })) (from ! (stop !))
+          (init ! 40 refl (tt, record { fits = far h-is })) $
+          assigns ! (addr ! (from ! (hop ! (look ! 58 refl) (fld ! {τ = ring} {d = 512} refl (stop !))))) (from ! (stop !)) (init ! 38 refl (tt, tt)) $
+          assigns ! (bin ! (load ! (from ! (stop !)) (look ! 38 refl)) (load ! (from ! (stop !)) (look ! 40 refl)) tt) (from ! (stop !))
+          (init ! 36 refl (tt, tt)) $
+          assigns ! (of-opd ! (load ! (from ! (hop ! (look ! 36 refl) (stop !))) (look-in ! 0 (elem ! (words (h .ib)) (j h-is)
+          (inside h-is (h .ib) (long-h h-is .ib)) (words-long (h .ib) ∙ long-h h-is .ib) (sub ! 1 {τ = ring} {d = 512} refl (whole !))))))
+          (from ! (stop !)) (store ! 48 refl (read-fits h-is (h .ib) (long-h h-is .ib) (ring-ib h-is))) $
+          rewrite ! 48 (λ (u : Val). ‵ (fat fullShare (tyInt w32) l6 0 u)) (read-is h-is (h .ib) (long-h h-is .ib)) refl $
+          assigns ! (bin ! (load ! (from ! (stop !)) (look ! 52 refl)) (lit ! tt) (record { fits = far h-is })) (from ! (stop !))
+          (init ! 34 refl (tt, record { fits = far h-is })) $
+          assigns ! (addr ! (from ! (hop ! (look ! 58 refl) (fld ! {τ = ring} {d = 1024} refl (stop !))))) (from ! (stop !)) (init ! 32 refl (tt, tt)) $
+          assigns ! (bin ! (load ! (from ! (stop !)) (look ! 32 refl)) (load ! (from ! (stop !)) (look ! 34 refl)) tt) (from ! (stop !))
+          (init ! 30 refl (tt, tt)) $
+          assigns ! (of-opd ! (load ! (from ! (hop ! (look ! 30 refl) (stop !))) (look-in ! 0 (elem ! (words (h .speed)) (j h-is)
+          (inside h-is (h .speed) (long-h h-is .speed)) (words-long (h .speed) ∙ long-h h-is .speed) (sub ! 2 {τ = ring} {d = 1024} refl (whole !))))))
+          (from ! (stop !)) (init ! 28 refl (read-fits h-is (h .speed) (long-h h-is .speed) (ring-speed h-is))) $
+          rewrite ! 28 (λ (u : Val). ‵ (fat fullShare (tyInt w32) l16 0 u)) (read-is h-is (h .speed) (long-h h-is .speed)) refl $
+          assigns ! (bin ! (load ! (from ! (stop !)) (look ! 52 refl)) (lit ! tt) (record { fits = far h-is })) (from ! (stop !))
+          (init ! 26 refl (tt, record { fits = far h-is })) $
+          assigns ! (addr ! (from ! (hop ! (look ! 58 refl) (fld ! {τ = ring} {d = 1536} refl (stop !))))) (from ! (stop !)) (init ! 24 refl (tt, tt)) $
+          assigns ! (bin ! (load ! (from ! (stop !)) (look ! 24 refl)) (load ! (from ! (stop !)) (look ! 26 refl)) tt) (from ! (stop !))
+          (init ! 22 refl (tt, tt)) $
+          assigns ! (of-opd ! (load ! (from ! (hop ! (look ! 22 refl) (stop !))) (look-in ! 0 (elem ! (words (h .a)) (j h-is)
+          (inside h-is (h .a) (long-h h-is .a)) (words-long (h .a) ∙ long-h h-is .a) (sub ! 3 {τ = ring} {d = 1536} refl (whole !))))))
+          (from ! (stop !)) (init ! 20 refl (read-fits h-is (h .a) (long-h h-is .a) (ring-a h-is))) $
+          rewrite ! 20 (λ (u : Val). ‵ (fat fullShare (tyInt w32) l20 0 u)) (read-is h-is (h .a) (long-h h-is .a)) refl $
+          assigns ! (bin ! (load ! (from ! (stop !)) (look ! 52 refl)) (lit ! tt) (record { fits = far h-is })) (from ! (stop !))
+          (init ! 18 refl (tt, record { fits = far h-is })) $
+          assigns ! (addr ! (from ! (hop ! (look ! 58 refl) (fld ! {τ = ring} {d = 2048} refl (stop !))))) (from ! (stop !)) (init ! 16 refl (tt, tt)) $
+          assigns ! (bin ! (load ! (from ! (stop !)) (look ! 16 refl)) (load ! (from ! (stop !)) (look ! 18 refl)) tt) (from ! (stop !))
+          (init ! 14 refl (tt, tt)) $
+          assigns ! (of-opd ! (load ! (from ! (hop ! (look ! 14 refl) (stop !))) (look-in ! 0 (elem ! (words (h .b)) (j h-is)
+          (inside h-is (h .b) (long-h h-is .b)) (words-long (h .b) ∙ long-h h-is .b) (sub ! 4 {τ = ring} {d = 2048} refl (whole !))))))
+          (from ! (stop !)) (init ! 12 refl (read-fits h-is (h .b) (long-h h-is .b) (ring-b h-is))) $
+          rewrite ! 12 (λ (u : Val). ‵ (fat fullShare (tyInt w32) l24 0 u)) (read-is h-is (h .b) (long-h h-is .b)) refl $
+          assigns ! (bin ! (load ! (from ! (stop !)) (look ! 52 refl)) (lit ! tt) (record { fits = far h-is })) (from ! (stop !))
+          (init ! 10 refl (tt, record { fits = far h-is })) $
+          assigns ! (addr ! (from ! (hop ! (look ! 58 refl) (fld ! {τ = ring} {d = 2560} refl (stop !))))) (from ! (stop !)) (init ! 8 refl (tt, tt)) $
+          assigns ! (bin ! (load ! (from ! (stop !)) (look ! 8 refl)) (load ! (from ! (stop !)) (look ! 10 refl)) tt) (from ! (stop !))
+          (init ! 6 refl (tt, tt)) $
+          assigns ! (of-opd ! (load ! (from ! (hop ! (look ! 6 refl) (stop !))) (look-in ! 0 (elem ! (words (h .c)) (j h-is)
+          (inside h-is (h .c) (long-h h-is .c)) (words-long (h .c) ∙ long-h h-is .c) (sub ! 5 {τ = ring} {d = 2560} refl (whole !))))))
+          (from ! (stop !)) (init ! 4 refl (read-fits h-is (h .c) (long-h h-is .c) (ring-c h-is))) $
+          rewrite ! 4 (λ (u : Val). ‵ (fat fullShare (tyInt w32) l28 0 u)) (read-is h-is (h .c) (long-h h-is .c)) refl $
+          shuts ! tt MT.the-row q′ h (struct moments .val h ∷ []) b o $
+          -- [the token; the fractured borrow; _28; …; _0; …; its last value]
+          calls-plain ! fm (struct found) (y h-is) _ (makes h-is p-is)
+          (and-then ! (load ! (from ! (stop !)) (look ! 53 refl)) (and-then ! (load ! (from ! (stop !)) (look ! 49 refl)) (and-then ! (load !
+          (from ! (stop !)) (look ! 47 refl)) (and-then ! (load ! (from ! (stop !)) (look ! 27 refl)) (and-then ! (load ! (from ! (stop !))
+          (look ! 19 refl)) (and-then ! (load ! (from ! (stop !)) (look ! 11 refl)) (and-then ! (load ! (from ! (stop !)) (look ! 3 refl))
+          (no-more !)))))))) (λ v is.
+          land ! (from ! (stop !)) (init ! 58 refl (struct found .typed 𝓤 H A W (y h-is) v is)) $ returns ! (look ! 58 refl) $
+          forget ! 58 refl $ move ! (58 ∷ 59 ∷ []) $ free1 ! $ forget ! 56 refl $ move ! (56 ∷ 57 ∷ []) $ free1 ! $ forget ! 54 refl $ move !
+          (54 ∷ 55 ∷ []) $ free1 ! $ forget ! 52 refl $ move ! (52 ∷ 53 ∷ []) $ free1 ! $ forget ! 50 refl $ move ! (50 ∷ 51 ∷ []) $ free1 ! $
+          forget ! 48 refl $ move ! (48 ∷ 49 ∷ []) $ free1 ! $ forget ! 46 refl $ move ! (46 ∷ 47 ∷ []) $ free1 ! $ forget ! 44 refl $ move !
+          (44 ∷ 45 ∷ []) $ free1 ! $ forget ! 42 refl $ move ! (42 ∷ 43 ∷ []) $ free1 ! $ forget ! 40 refl $ move ! (40 ∷ 41 ∷ []) $ free1 ! $
+          forget ! 38 refl $ move ! (38 ∷ 39 ∷ []) $ free1 ! $ forget ! 36 refl $ move ! (36 ∷ 37 ∷ []) $ free1 ! $ forget ! 34 refl $ move !
+          (34 ∷ 35 ∷ []) $ free1 ! $ forget ! 32 refl $ move ! (32 ∷ 33 ∷ []) $ free1 ! $ forget ! 30 refl $ move ! (30 ∷ 31 ∷ []) $ free1 ! $
+          forget ! 28 refl $ move ! (28 ∷ 29 ∷ []) $ free1 ! $ forget ! 26 refl $ move ! (26 ∷ 27 ∷ []) $ free1 ! $ forget ! 24 refl $ move !
+          (24 ∷ 25 ∷ []) $ free1 ! $ forget ! 22 refl $ move ! (22 ∷ 23 ∷ []) $ free1 ! $ forget ! 20 refl $ move ! (20 ∷ 21 ∷ []) $ free1 ! $
+          forget ! 18 refl $ move ! (18 ∷ 19 ∷ []) $ free1 ! $ forget ! 16 refl $ move ! (16 ∷ 17 ∷ []) $ free1 ! $ forget ! 14 refl $ move !
+          (14 ∷ 15 ∷ []) $ free1 ! $ forget ! 12 refl $ move ! (12 ∷ 13 ∷ []) $ free1 ! $ forget ! 10 refl $ move ! (10 ∷ 11 ∷ []) $ free1 ! $
+          forget ! 8 refl $ move ! (8 ∷ 9 ∷ []) $ free1 ! $ forget ! 6 refl $ move ! (6 ∷ 7 ∷ []) $ free1 ! $ forget ! 4 refl $ move ! (4 ∷ 5
+          ∷ []) $ free1 ! $ forget ! 2 refl $ move ! (2 ∷ 3 ∷ []) $ free1 ! $ free0 ! $
+          keep ! (2 ∷ 1 ∷ 0 ∷ []) $
+          by ! (exits moments (number ∷ []) (struct found) 𝓤 H A answer (f.clauses 𝓤 H A at-mem run) holds W κ q b o γ h (i, tt) tt v
+          (subst (λ (z : Found). Stands (struct found) z v) (y-is h-is) is)))))))))))))))))))))))))))))))))))
 
 pub mirgalhet-recorded-row-spec : {M : Type 1} → stated.statement M
 unfolding code.routine tablesOf
@@ -281,9 +281,9 @@ mirgalhet-recorded-row-spec 𝓤 H 𝓜 𝓖 𝓡 =
     let fm = fmOf 𝓤 H (W .laws) 𝓣 in
     let known-find = cited 𝓤 H (Answers 𝓤 H (𝓖 .A) (number ∷ number ∷ number ∷ []) (struct place) placed) 𝓜 𝓡 code.env find.name
     find.routine
-        code.calls-ring·row-place (find-thm.met 𝓤 H 𝓜 𝓖 𝓡) in
+    code.calls-ring·row-place (find-thm.met 𝓤 H 𝓜 𝓖 𝓡) in
     let known-make = cited 𝓤 H (Answers 𝓤 H (𝓖 .A) (struct place ∷ six) (struct found) made) 𝓜 𝓡 code.env make.name make.routine
-        code.calls-recorder·found-at (make-thm.met 𝓤 H 𝓜 𝓖 𝓡) in
+    code.calls-recorder·found-at (make-thm.met 𝓤 H 𝓜 𝓖 𝓡) in
     entered 𝓤 H (tripleOf 𝓤 H (𝓖 .A) f.signature (f.spec 𝓤 H (𝓖 .A) (𝓜 .mem) (𝓡 .run)))
     (tables 𝓤 H 𝓜 𝓡 code.env .C) (tables 𝓤 H 𝓜 𝓡 code.env .Λ) name code.function (code.unfolded 𝓤 H 𝓜 𝓡)
     (meets moments (number ∷ []) (struct found) 𝓤 H (𝓖 .A) answer (f.clauses 𝓤 H (𝓖 .A) (𝓜 .mem) (𝓡 .run))
@@ -292,10 +292,22 @@ mirgalhet-recorded-row-spec 𝓤 H 𝓜 𝓖 𝓡 =
     (λ n r. returned 𝓤 H (𝓖 .A) W (𝓣 .C) fm find.name (number ∷ number ∷ number ∷ []) (struct place) placed known-find
     (h .next, (h .real, (a .0, tt))) (n, (r, (good .0, tt))))
     (λ h-is p-is. returned 𝓤 H (𝓖 .A) W (𝓣 .C) fm make.name (struct place ∷ six) (struct found) made known-make
-    (rowPlace (h .next) (h .real) (a .0), read-words 𝓤 H (𝓖 .A) W (𝓜 .mem) (𝓡 .run) (𝓣 .C) (𝓣 .Λ) fm κ q b o γ h (a .0) (good .0) h-is)
-    (p-is, (ring-ia 𝓤 H (𝓖 .A) W (𝓜 .mem) (𝓡 .run) (𝓣 .C) (𝓣 .Λ) fm κ q b o γ h (a .0) (good .0) h-is,
-    (ring-ib 𝓤 H (𝓖 .A) W (𝓜 .mem) (𝓡 .run) (𝓣 .C) (𝓣 .Λ) fm κ q b o γ h (a .0) (good .0) h-is,
-    (ring-speed 𝓤 H (𝓖 .A) W (𝓜 .mem) (𝓡 .run) (𝓣 .C) (𝓣 .Λ) fm κ q b o γ h (a .0) (good .0) h-is,
-    (ring-a 𝓤 H (𝓖 .A) W (𝓜 .mem) (𝓡 .run) (𝓣 .C) (𝓣 .Λ) fm κ q b o γ h (a .0) (good .0) h-is,
-    (ring-b 𝓤 H (𝓖 .A) W (𝓜 .mem) (𝓡 .run) (𝓣 .C) (𝓣 .Λ) fm κ q b o γ h (a .0) (good .0) h-is,
-    (ring-c 𝓤 H (𝓖 .A) W (𝓜 .mem) (𝓡 .run) (𝓣 .C) (𝓣 .Λ) fm κ q b o γ h (a .0) (good .0) h-is, tt))))))))))
+    (rowPlace (h .next) (h .real) (a .0), read-words 𝓤 H (𝓖 .A) W (𝓜 .mem) (𝓡 .run) (𝓣 .C) (𝓣 .Λ) fm κ q b o γ h (a .0) (good .0) h-is) (
+      p-is,
+      (
+        ring-ia 𝓤 H (𝓖 .A) W (𝓜 .mem) (𝓡 .run) (𝓣 .C) (𝓣 .Λ) fm κ q b o γ h (a .0) (good .0) h-is,
+        (
+          ring-ib 𝓤 H (𝓖 .A) W (𝓜 .mem) (𝓡 .run) (𝓣 .C) (𝓣 .Λ) fm κ q b o γ h (a .0) (good .0) h-is,
+          (
+            ring-speed 𝓤 H (𝓖 .A) W (𝓜 .mem) (𝓡 .run) (𝓣 .C) (𝓣 .Λ) fm κ q b o γ h (a .0) (good .0) h-is,
+            (
+              ring-a 𝓤 H (𝓖 .A) W (𝓜 .mem) (𝓡 .run) (𝓣 .C) (𝓣 .Λ) fm κ q b o γ h (a .0) (good .0) h-is,
+              (
+                ring-b 𝓤 H (𝓖 .A) W (𝓜 .mem) (𝓡 .run) (𝓣 .C) (𝓣 .Λ) fm κ q b o γ h (a .0) (good .0) h-is,
+                (ring-c 𝓤 H (𝓖 .A) W (𝓜 .mem) (𝓡 .run) (𝓣 .C) (𝓣 .Λ) fm κ q b o γ h (a .0) (good .0) h-is, tt),
+              ),
+            ),
+          ),
+        ),
+      ),
+    ))))
