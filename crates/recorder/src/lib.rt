@@ -77,7 +77,9 @@ pub extern "C" fn mirgalhet_recorded_step(
     ib: i32,
     count: i32,
 ) -> Output
-    ensures { λ r. ⌜ (r ≡ outputOf (stepped (now (d .entry)) ia ib count)) × (now (d .exit) ≡ stepped (now (d .entry)) ia ib count .drive) × (now (m .exit) ≡ kept (now (m .entry)) ia ib (stepped (now (d .entry)) ia ib count)) ⌝ }
+    ensures { λ r. ⌜ (r ≡ outputOf (stepped (now (d .entry)) ia ib count))
+        × (now (d .exit) ≡ stepped (now (d .entry)) ia ib count .drive)
+        × (now (m .exit) ≡ kept (now (m .entry)) ia ib (stepped (now (d .entry)) ia ib count)) ⌝ }
 {
     let s = take_note(*d, ia, ib, count);
     *d = noted_drive(s);
@@ -116,7 +118,9 @@ fn wipe(m: &mut Moments, a: Answered) -> i32
 // After a trip: the drive record becomes the fresh drive of its settings, and the record beside it is emptied.
 #[no_mangle]
 pub extern "C" fn mirgalhet_recorded_clear(d: &mut Drive, m: &mut Moments) -> i32
-    ensures { λ r. ⌜ (r ≡ cleared (now (d .entry)) .number) × (now (d .exit) ≡ cleared (now (d .entry)) .drive) × (now (m .exit) ≡ emptiedBy (now (m .entry)) (cleared (now (d .entry)) .number)) ⌝ }
+    ensures { λ r. ⌜ (r ≡ cleared (now (d .entry)) .number)
+        × (now (d .exit) ≡ cleared (now (d .entry)) .drive)
+        × (now (m .exit) ≡ emptiedBy (now (m .entry)) (cleared (now (d .entry)) .number)) ⌝ }
 {
     let a = drive::clear(*d);
     *d = interrupt::answered_drive(a);
@@ -131,7 +135,9 @@ pub extern "C" fn mirgalhet_recorded_start(
     m: &mut Moments,
     settings: Settings,
 ) -> i32
-    ensures { λ r. ⌜ (r ≡ madeNumber (made settings)) × (now (d .exit) ≡ driveOr (now (d .entry)) (made settings)) × (now (m .exit) ≡ emptiedBy (now (m .entry)) (madeNumber (made settings))) ⌝ }
+    ensures { λ r. ⌜ (r ≡ madeNumber (made settings))
+        × (now (d .exit) ≡ driveOr (now (d .entry)) (made settings))
+        × (now (m .exit) ≡ emptiedBy (now (m .entry)) (madeNumber (made settings))) ⌝ }
 {
     let a = interrupt::started(*d, settings);
     *d = interrupt::answered_drive(a);
