@@ -14,11 +14,16 @@ use Rattle.stages.proofs.AtBench as value
 use Rattle.drive.specs.Calls.{fresh, withTrip, retargeted, withTarget}
 use Rattle.drive.proofs.CallLaws.{refused-broken}
 use Rattle.drive.proofs.Kept.{trip-sound, target-sound}
-use Rattle.drive.proofs.AtBench.{bench-sound, bench-intact, targets, first}
+use Rattle.drive.proofs.AtBench.{bench-sound, bench-intact, targets, once, first}
 use Rattle.rows.specs.Rows.{rowStepped, noRows, ranOf, rowsFit}
 use Rattle.promises.specs.Histories.{afterCall, afterCalls, rowAt, Quiet}
 use Rattle.promises.specs.Words.{seen, dError, qError, next, speedError}
 use Rattle.promises.specs.Instances.{rested, waiting, untied, spoiled, TablesMet, Taken, StepsMet, TicksMet, HistoryMet, quiet, QuietMet}
+use Rattle.ring.specs.Ring.{inRange, placeIn, rowsIn, placeAfter, oneMore, oldestFirst}
+use Rattle.stages.specs.declared.Stepped.{Stepped}
+use Rattle.moments.specs.Moments.{none, realRows, put, rowAt as momentRow, momentAt, rowOf, kept, recorded}
+use Rattle.moments.specs.Recordings.{after, afterAll}
+use Rattle.promises.specs.Instances.{MomentsMet}
 use Rattle.promises.proofs.Demand1.{step-table, target-table, clear-table}
 use Rattle.promises.proofs.Demand2.{step-by-the-rules, run-of-none}
 use Rattle.promises.proofs.Window.{quiet-no-clear}
@@ -91,3 +96,12 @@ quiet-met =
     let q : Quiet w quiet = rw (afterCall, target-table w (pos 8192) .then 2 (b, (refl, targets .1)), clear-table w .then 1 (b, refl), run-of-none w [] b .0)
     (refl, refl, (refl, refl, (refl, refl, (a .0, a .1, tt)))) in
     record { intact = b; untripped = refl; calls = q; none-clears = quiet-no-clear w quiet b refl q }
+
+pub moments-met : MomentsMet
+unfolding afterAll after recorded kept rowOf put none momentAt momentRow oldestFirst placeIn rowsIn inRange placeAfter oneMore
+    fresh once withField withShaft
+moments-met = record {
+  how-many = ap (λ (s : Stepped). realRows (kept none (pos 0) (pos 0) s)) first;
+  first = ap (λ (s : Stepped). momentAt (kept none (pos 0) (pos 0) s) (pos 0)) first;
+  wild = (record { ia = refl; ib = refl; speed = refl; a = refl; b = refl; c = refl }, refl);
+}

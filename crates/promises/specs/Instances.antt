@@ -15,6 +15,10 @@ use Rattle.drive_record.specs.Record.{broken}
 use Rattle.stages.specs.Step.{withShaft}
 use Rattle.drive.specs.Calls.{fresh, withTrip, stepTable, stepped, withTarget, targetTable, clearTable}
 use Rattle.rows.specs.Rows.{noRows, runTable}
+use Rattle.ring.specs.Ring.{inRange}
+use Rattle.moments.specs.declared.Moments.{Moments}
+use Rattle.moments.specs.Moments.{zeros, none, realRows, found, momentAt}
+use Rattle.moments.specs.Recordings.{stepping as recording, afterAll, Rings}
 use Rattle.promises.specs.Histories.{Call, stepping, aiming, clearing, running, History, rowAt, Quiet, NoClear}
 use Rattle.promises.specs.Words.{dError, qError, speedError}
 
@@ -97,3 +101,16 @@ pub record QuietMet : Type 0 where
   pub untripped : waiting (pos 100) .tripped ≡ false
   pub calls : Quiet (waiting (pos 100)) quiet
   pub none-clears : NoClear (waiting (pos 100)) quiet
+
+-- ════ the last moments: a recorded step of the drive at rest is read as the one row; and a record has a count out of range
+abbrev pub recordedOnce : Moments
+recordedOnce = afterAll (rested, none) (recording (pos 0) (pos 0) (pos 0) ∷ []) .1
+
+abbrev pub astray : Moments
+astray = record { ia = zeros; ib = zeros; speed = zeros; a = zeros; b = zeros; c = zeros; next = pos 128; real = pos 0 }
+
+pub record MomentsMet : Type 0 where
+  pub how-many : realRows recordedOnce ≡ 1
+  pub first : momentAt recordedOnce (pos 0)
+      ≡ found (pos 0) (record { ia = pos 0; ib = pos 0; speed = pos 0; a = pos 144; b = pos 455; c = pos 455 })
+  pub wild : Rings astray × (inRange (astray .next) (astray .real) ≡ false)
