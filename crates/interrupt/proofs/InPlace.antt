@@ -44,7 +44,7 @@ use Rattle.interrupt.proofs.Words.{past-is, operands, alloc-all, pass-a
 use Rattle.interrupt.proofs.PlainCalls.{Answers, Returns, returned, calls-plain}
 
 -- a goal P ∗ Q, where Q is had for nothing
-adds : {M : Type 1} {𝓤 : URA M} {H : Heap 𝓤} {A : Atoms 𝓤} {K : Type 0} {W : Given 𝓤 H A} {Γ : List (Item 𝓤)} → K → {P Q : SProp 𝓤}
+pub adds : {M : Type 1} {𝓤 : URA M} {H : Heap 𝓤} {A : Atoms 𝓤} {K : Type 0} {W : Given 𝓤 H A} {Γ : List (Item 𝓤)} → K → {P Q : SProp 𝓤}
     → ent 𝓤 (emp 𝓤) Q → Step K W Γ (prop P) Γ (prop (sep 𝓤 P Q))
 adds {𝓤 = 𝓤} t {P} {Q} h = suffices t P (via 𝓤 (sep 𝓤 (emp 𝓤) P) (emp∗ 𝓤 P) (via 𝓤 (sep 𝓤 Q P) (monoL 𝓤 P h) (comm∗ 𝓤 Q P)))
 

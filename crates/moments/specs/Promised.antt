@@ -13,7 +13,7 @@ use Rattle.ring.specs.Ring.{inRange, last128}
 use Rattle.moments.specs.declared.Row.{Row}
 use Rattle.moments.specs.declared.Moments.{Moments}
 use Rattle.moments.specs.Moments.{none, realRows, found, noRow, past, momentAt, rowOf, kept, emptiedBy}
-use Rattle.moments.specs.Recordings.{Call, stepping, clearing, starting, afterAll, notedAll, readAll, Rings}
+use Rattle.moments.specs.Recordings.{Call, afterAll, notedAll, readAll, Rings}
 
 -- ════ from an empty record, through any calls cs
 -- so many rows are real as there were accepted steps since the last accepted start or clear, 128 at most; read one by one, oldest first, they are the last

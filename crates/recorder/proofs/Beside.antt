@@ -11,8 +11,8 @@ use lib.Dec.{T}
 use lib.ListN.{getD}
 use mir.Syntax.{Name, Ty, named, erased, mut, tyRef, deref, place, copy, rvOpd, addrOf, Body, seq, assign, call, return, local, valueLocal, Fn}
 use mir.Val.{Val, vptr, hasTy, WT}
-use base.Logic.{SProp, ent, sep, emp, guard, id⊢, via, fst∗, snd∗, comm∗, monoL, emp∗, exE}
-use base.Fml.{GName, Lft, Share, Fml, ftrue, flft, fobs, fbor, fres}
+use base.Logic.{SProp, ent, sep, emp, guard, id⊢, via, fst∗, snd∗, exE}
+use base.Fml.{GName, Lft, Share, ftrue, flft, fobs, fbor, fres}
 use prog.Model.{Model}
 use prog.Routine.{Routine, Env as Routines}
 use prog.Wp.{Heap, Env, Calls, Loops, WpFn, Tables, Closed, noLocal}
@@ -20,7 +20,7 @@ use ghost.Atoms.{Atoms, sem}
 use contract.Lifetimes.{Lfts}
 use contract.Monad.{fact, fact-use}
 use contract.Running.{GhostRules, Running, givenOf, tables, tablesOf}
-use types.Kit.{Given, Item, Step, prop, ‵, raw, _⊛_, some, later, given, _$_, _∵_, !, qed, by, move, keep, drop, use0, use1, use2, split, join, pick}
+use types.Kit.{Given, ‵, raw, _⊛_, some, later, given, _$_, _∵_, !, qed, by, move, keep, drop, use0, use1, use2, split, join, pick}
 use types.Kit.{fsplit, fsplit3, fjoin, fjoin3, feqI, check, learn, suffices, frame, await, updating, now as at-once, done}
 use types.Run.{look, look-raw, init, store, store-raw, forget, stop, hop, from, load, addr, and-then, no-more, land, of-opd, assigns, returns, enter}
 use types.Run.{alloc1, alloc0, params1, pass1, pass0, free1, free0}
@@ -44,12 +44,8 @@ use denote.Triple.Walked.{Stays, stay-ref, gave-ref, walkOf, goes-ref, goes-gave
 use Rattle.interrupt.proofs.Words.{Word, Kind, struct, Stands, slots, keeps, stays, goes, rows, spells, tellss, lists, vals, Good, lasts, fits, had}
 use Rattle.interrupt.proofs.Words.{handed, vals-handed, good-handed, Blocks, locals, env, past, past-is, operands, alloc-all, pass-all, free-all, here}
 use Rattle.interrupt.proofs.Words.{reads-first, read-all}
+use Rattle.interrupt.proofs.InPlace.{adds}
 use Rattle.interrupt.proofs.PlainCalls.{Answers, Returns, returned, calls-plain}
-
--- a goal P ∗ Q, where Q is had for nothing
-pub adds : {M : Type 1} {𝓤 : URA M} {H : Heap 𝓤} {A : Atoms 𝓤} {K : Type 0} {W : Given 𝓤 H A} {Γ : List (Item 𝓤)} → K → {P Q : SProp 𝓤}
-    → ent 𝓤 (emp 𝓤) Q → Step K W Γ (prop P) Γ (prop (sep 𝓤 P Q))
-adds {𝓤 = 𝓤} t {P} {Q} h = suffices t P (via 𝓤 (sep 𝓤 (emp 𝓤) P) (emp∗ 𝓤 P) (via 𝓤 (sep 𝓤 Q P) (monoL 𝓤 P h) (comm∗ 𝓤 Q P)))
 
 -- the record's type, that of the one beside it, of what `keep` answers, which nobody reads, those of the parameters after them, of what f answers and of
 -- the result

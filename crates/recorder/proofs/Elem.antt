@@ -12,7 +12,7 @@ use lib.ListN.{length, getD, set, length-set, length-map}
 use lib.Seq.{set-getD}
 use mir.Syntax.{Ty, tyArray, w32}
 use mir.Val.{Val, vunit, vint, vstruct, ofList, ofZ}
-use base.Logic.{SProp, ent, sep, wand, all, via, id⊢, apply∗, allE}
+use base.Logic.{SProp, ent, sep, wand, all, apply∗, allE}
 use base.Fml.{Share, fat}
 use prog.Memory.{size}
 use prog.Model.{elems}

@@ -12,7 +12,7 @@ use lib.Dec.{T}
 use lib.IntN.{ℤ}
 use lib.ListN.{length, set}
 use mir.Syntax.{Ty, named, mut, tyRef, tyUnit, tyInt, tyBool, tyPtr, tyArray, w32, w64, place, opdUnit, rvOpd, Body, seq, assign, return}
-use mir.Val.{Val, vunit, vbool, vint, vptr, vstruct, vcons, vnil, ofList, hasTy, WT, Fits}
+use mir.Val.{Val, vunit, vptr, vstruct, vcons, vnil, ofList, hasTy, WT}
 use base.Logic.{SProp, ent, sep, emp, via, fst∗}
 use base.Fml.{GName, Lft, Share, ftrue, flft, fobs, fauth, fbor, fobor, fat, froom, fdies}
 use prog.Memory.{Memory}
@@ -31,7 +31,6 @@ use sound.WpLaws.{FmC, fmOf, WpFn-mono}
 use denote.RattleType.{owns}
 use denote.Laws.{Is, shows}
 use denote.Memory.{cellAt, mem, pointee}
-use denote.Exit.{yes}
 use denote.Plain.{uint-lawful}
 use denote.Builtin.{i32}
 use denote.Ref.{RefT, MutRef, ptr-vals, mut-tells}
@@ -42,7 +41,7 @@ use denote.Triple.Entry.{onEntry}
 use denote.Triple.Statement.{Triple}
 use denote.Triple.Spec.{Meets, tripleOf}
 use denote.Triple.Table.{entered, cited}
-use denote.Triple.Walked.{says, Stays, stay-ref, stay-dropped, walkOf, AllGo, goes-ref, Walks, hasOf, ends-at, walked, walk-meets}
+use denote.Triple.Walked.{says, Stays, stay-ref, walkOf, goes-ref, Walks, hasOf, ends-at, walked, walk-meets}
 use Rattle.interrupt.proofs.Words.{Word, struct, number, Stands, slots, keeps, stays, goes, lists, tellss, spells, lasts, fits, had}
 use Rattle.interrupt.proofs.PlainCalls.{Answers, Returns, returned, calls-plain}
 use Rattle.moments.specs.declared.Moments.{Moments}

@@ -1,7 +1,7 @@
 -- `mirgalhet_recorded_clear` meets its contract: a record changed in place with another beside it (Beside), by `drive::clear`.
 -- Assumes nothing.
 use mathlib.Core.Path.{refl}
-use mathlib.Core.List.{[], _∷_}
+use mathlib.Core.List.{[]}
 use base.Logic.{emp}
 use contract.Monad.{factI}
 use Rattle.drive.specs.declared.Answered.{Answered}
@@ -9,7 +9,7 @@ use Rattle.drive.specs.Calls.{cleared}
 use Rattle.drive.proofs.clear.Symbol as take
 use Rattle.drive.proofs.clear.Met as take-thm
 use Rattle.interrupt.proofs.Words.{number, struct}
-use Rattle.interrupt.proofs.Structs.{settings, drive, answered}
+use Rattle.interrupt.proofs.Structs.{drive, answered}
 use Rattle.interrupt.proofs.answered_drive.Symbol as next
 use Rattle.interrupt.proofs.answered_drive.Met as next-thm
 use Rattle.interrupt.proofs.answered_number.Symbol as out

@@ -15,7 +15,7 @@ use base.Logic.{SProp, emp}
 use base.Fml.{GName, Lft, Share, ftrue, flft, fat}
 use prog.Memory.{Memory}
 use prog.Routine.{Routine}
-use prog.Wp.{Heap, Calls, Loops, Tables}
+use prog.Wp.{Heap, Calls, Loops}
 use ghost.Atoms.{Atoms}
 use contract.Lifetimes.{Lfts}
 use contract.Monad.{Fun, factI}
@@ -52,7 +52,7 @@ use Rattle.moments.proofs.Owned.{rings}
 use Rattle.moments.proofs.Rows.{moment-stands}
 use Rattle.moments.proofs.Moments as MT
 use Rattle.recorder.proofs.Structs.{moments, place, found, Fields, fields-of}
-use Rattle.recorder.proofs.Elem.{elem, word, words, words-long, words-get, ring-get, Ring}
+use Rattle.recorder.proofs.Elem.{elem, word, words, words-long, words-get, ring-get}
 use Rattle.recorder.proofs.Looking.{Holds, Goes, exits, meets}
 use Rattle.recorder.proofs.found_at.Symbol as make
 use Rattle.recorder.proofs.found_at.Met as make-thm
