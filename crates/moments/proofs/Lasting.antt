@@ -2,7 +2,7 @@
 -- rows says (`Holds`).
 -- Assumes nothing.
 use mathlib.Core.Path.{_≡_, refl, sym, _∙_, ap}
-use mathlib.Core.Bool.{Bool, true, false, cond}
+use mathlib.Core.Bool.{Bool, true, false, cond, false≢true}
 use mathlib.Core.List.{List, [], _∷_, _++_}
 use Prim.Native.Nat.{_≤_, _<_, min}
 use native.Mathlib.Omega.{arith}
@@ -20,7 +20,7 @@ use Rattle.moments.specs.declared.Moments.{Moments}
 use Rattle.moments.specs.Moments.{none, realRows, put, past, momentAt, rowOf, kept, recorded, emptiedBy, emptied}
 use Rattle.moments.specs.Recordings.{Call, stepping, clearing, starting, meanwhile, Both, after, afterAll, noted, moved, notedAll}
 use Rattle.moments.specs.Recordings.{readFrom, readAll, Rings}
-use Rattle.moments.specs.Promised.{Reads, LastMoments, FromAnyRecord, WildCounts, EmptiedOrKept}
+use Rattle.moments.specs.Promised.{Reads, LastMoments, FromAnyRecord, WildCounts, isRow, NineteenPastTheRows, EmptiedOrKept}
 use Rattle.moments.proofs.Rows.{read-rows, read-at, put-rings, put-read, none-rings}
 
 -- ════ a record, and the list of all the rows that were put in
@@ -125,6 +125,11 @@ wild-counts m h e =
           ∙ put-read m h r
           ∙ ap (λ (l : List Row). last128 (l ++ (r ∷ []))) (none-read m none-real);
     }
+
+pub nineteen-past-the-rows : NineteenPastTheRows
+unfolding momentAt isRow past
+nineteen-past-the-rows m (pos i) = record { zero = λ e. rw e refl; nineteen = λ e. rw e refl }
+nineteen-past-the-rows m (negsuc i) = record { zero = λ e. absurd (false≢true e); nineteen = λ e. refl }
 
 pub emptied-or-kept : EmptiedOrKept
 unfolding kept emptiedBy

@@ -1,9 +1,10 @@
 -- What the record of the last moments is for: whatever was called, it can be read, oldest first, what the last 128 accepted steps were.
 use Prim.Native.Nat.{ℕ, _≤_, _<_, min}
 use mathlib.Core.Path.{_≡_}
-use mathlib.Core.Bool.{false}
+use mathlib.Core.Bool.{Bool, true, false}
 use mathlib.Core.List.{List, [], _∷_}
-use lib.IntN.{ℤ, pos}
+use lib.Dec.{ltb}
+use lib.IntN.{ℤ, pos, negsuc}
 use lib.ListN.{length, getD}
 use Rattle.fixed.specs.Fixed.{equal}
 use Rattle.settings.specs.declared.Settings.{Settings}
@@ -41,6 +42,19 @@ pub record ReadAsEmpty (m : Moments) : Type 0 where
 
 abbrev pub WildCounts : Type 0
 WildCounts = (m : Moments) → Rings m → inRange (m .next) (m .real) ≡ false → ReadAsEmpty m
+
+-- whether i is a row of it
+unfoldable pub isRow : Moments → ℤ → Bool
+isRow m (pos i) = ltb i (realRows m)
+isRow m (negsuc i) = false
+
+-- a row that is there is read with 0; any other number gives 19 and zeros
+pub record ZeroOrNineteen (m : Moments) (i : ℤ) : Type 0 where
+  pub zero : isRow m i ≡ true → momentAt m i .number ≡ pos 0
+  pub nineteen : isRow m i ≡ false → momentAt m i ≡ found (pos 19) noRow
+
+abbrev pub NineteenPastTheRows : Type 0
+NineteenPastTheRows = (m : Moments) (i : ℤ) → ZeroOrNineteen m i
 
 -- an accepted clear or start leaves an empty record, whatever it was; a refused call leaves every word as it is
 pub record Calls (d : Drive) (m : Moments) : Type 0 where

@@ -3,14 +3,15 @@
 -- Assumes nothing.
 use mathlib.Core.Path.{_≡_, refl}
 use mathlib.Core.Bool.{true}
-use Prim.Native.Nat.{ℕ, _+_, _-_, _≤_, _<_}
+use Prim.Native.Nat.{ℕ, _+_, _-_, _*_, _≤_, _<_}
 use native.Mathlib.Omega.{arith}
-use borrow.Author.Tests.{ltb-true}
+use borrow.Author.Tests.{ltb-true, ltb-false}
 use lib.Dec.{T, ltb, ltb→lt}
-use lib.IntN.{ℤ, pos, negsuc, natAbs}
+use lib.IntN.{ℤ, pos, negsuc, natAbs, negℤ, _+ℤ_, _-ℤ_, _*ℤ_}
 use lib.Signed.{_≤ℤ_, _<ℤ_}
-use Rattle.fixed.specs.Fixed.{within}
-use Rattle.fixed.proofs.Parts.{order}
+use Rattle.fixed.specs.Fixed.{within, modulo}
+use Rattle.fixed.proofs.Parts.{diffs, order}
+use Rattle.fixed.proofs.DownLaws.{modulo-unique}
 use Rattle.fixed.proofs.Choice.{choose}
 use Rattle.fixed.proofs.Ranges.{two}
 use Rattle.fixed.proofs.HeldLaws.{and-both, within-lo, within-yes, within-size}
@@ -76,6 +77,23 @@ unfolding placeOfRow
 place-of-row-below at real i a r l =
     let on = at + (128 - real) + i in
     choose (λ (n : ℕ). n < 128) (ltb on 128) on (on - 128) (λ e. ltb-true on 128 e) (λ e. omega arith)
+
+-- the place is that of the rules, (next − real + i) modulo 128, though no remainder is formed
+pub place-modulo : (at real i : ℕ) → at < 128 → real ≤ 128 → i < real → pos (placeOfRow at real i) ≡ modulo (pos at -ℤ pos real +ℤ pos i) (pos 128)
+unfolding placeOfRow
+place-modulo at real i a r l =
+    let on = at + (128 - real) + i in
+    let x = pos at -ℤ pos real +ℤ pos i in
+    choose (λ (n : ℕ). pos n ≡ modulo x (pos 128)) (ltb on 128) on (on - 128)
+    (λ e.
+    let h : on < 128 = ltb-true on 128 e in
+    modulo-unique x (pos 128) (negℤ (pos 1)) (pos on) (turns at real i on 1 (omega arith)) (omega (arith, order)) (omega (arith, order)))
+    (λ e.
+    let h : 128 ≤ on = ltb-false on 128 e in
+    modulo-unique x (pos 128) (negℤ (pos 0)) (pos (on - 128)) (turns at real i (on - 128) 0 (omega arith)) (omega (arith, order)) (omega (arith, order)))
+  where
+    turns : (at real i r t : ℕ) → r + real ≡ 128 * t + (at + i) → pos at -ℤ pos real +ℤ pos i ≡ pos 128 *ℤ negℤ (pos t) +ℤ pos r
+    turns at real i r t e = simp diffs (omega arith)
 
 pub spot-inside : (next real : ℤ) → spotOf next real .at < 128
 unfolding spotOf
