@@ -7,21 +7,21 @@ use mathlib.Core.List.{List, [], _∷_, _++_}
 use Prim.Native.Nat.{_≤_, _<_, min}
 use native.Mathlib.Omega.{arith}
 use borrow.Author.Tests.{lt-ltb, le-ltb}
-use lib.IntN.{ℤ, pos, negsuc}
+use lib.IntN.{ℤ, pos, negsuc, natAbs}
 use lib.ListN.{length}
 use Rattle.fixed.specs.Fixed.{equal}
 use Rattle.stages.specs.declared.Stepped.{Stepped}
 use Rattle.drive.specs.Calls.{made, madeNumber, stepped, cleared}
 use Rattle.ring.specs.Ring.{inRange, rowsIn, last128}
-use Rattle.ring.proofs.Places.{rows-most}
+use Rattle.ring.proofs.Places.{place-below, rows-most, place-modulo}
 use Rattle.ring.proofs.Turned.{last128-long, last128-again, last128-all}
 use Rattle.moments.specs.declared.Row.{Row}
 use Rattle.moments.specs.declared.Moments.{Moments}
-use Rattle.moments.specs.Moments.{none, realRows, put, past, momentAt, rowOf, kept, recorded, emptiedBy, emptied}
+use Rattle.moments.specs.Moments.{none, placeOf, realRows, put, past, momentAt, rowOf, kept, recorded, emptiedBy, emptied, rowIn}
 use Rattle.moments.specs.Recordings.{Call, stepping, clearing, starting, meanwhile, Both, after, afterAll, noted, moved, notedAll}
 use Rattle.moments.specs.Recordings.{readFrom, readAll, Rings}
-use Rattle.moments.specs.Promised.{Reads, LastMoments, FromAnyRecord, WildCounts, isRow, NineteenPastTheRows, EmptiedOrKept}
-use Rattle.moments.proofs.Rows.{read-rows, read-at, put-rings, put-read, none-rings}
+use Rattle.moments.specs.Promised.{Reads, LastMoments, FromAnyRecord, WildCounts, RowByTheModulo, isRow, NineteenPastTheRows, EmptiedOrKept}
+use Rattle.moments.proofs.Rows.{row-stands, read-rows, read-at, put-rings, put-read, none-rings}
 
 -- ════ a record, and the list of all the rows that were put in
 record Holds (m : Moments) (rs : List Row) : Type 0 where
@@ -125,6 +125,11 @@ wild-counts m h e =
           ∙ put-read m h r
           ∙ ap (λ (l : List Row). last128 (l ++ (r ∷ []))) (none-read m none-real);
     }
+
+pub row-by-the-modulo : RowByTheModulo
+row-by-the-modulo m i h l =
+    let place = place-modulo (placeOf m) (realRows m) i (place-below (m .next) (m .real)) (rows-most (m .next) (m .real)) l in
+    row-stands m h i l ∙ ap (λ (z : ℤ). rowIn m (natAbs z)) place
 
 pub nineteen-past-the-rows : NineteenPastTheRows
 unfolding momentAt isRow past

@@ -21,7 +21,7 @@ use Rattle.moments.specs.Recordings.{readFrom, readAll, Rings}
 
 -- ════ where a row stands
 module _ (m : Moments) (h : Rings m) where
-  row-stands : (i : ℕ) → i < realRows m → rowAt m i ≡ rowIn m (placeOfRow (placeOf m) (realRows m) i)
+  pub row-stands : (i : ℕ) → i < realRows m → rowAt m i ≡ rowIn m (placeOfRow (placeOf m) (realRows m) i)
   unfolding rowAt rowIn
   row-stands i l =
       let at = place-below (m .next) (m .real) in

@@ -4,16 +4,16 @@ use mathlib.Core.Path.{_≡_}
 use mathlib.Core.Bool.{Bool, true, false}
 use mathlib.Core.List.{List, [], _∷_}
 use lib.Dec.{ltb}
-use lib.IntN.{ℤ, pos, negsuc}
+use lib.IntN.{ℤ, pos, negsuc, natAbs, _+ℤ_, _-ℤ_}
 use lib.ListN.{length, getD}
-use Rattle.fixed.specs.Fixed.{equal}
+use Rattle.fixed.specs.Fixed.{modulo, equal}
 use Rattle.settings.specs.declared.Settings.{Settings}
 use Rattle.drive_record.specs.declared.Drive.{Drive}
 use Rattle.drive.specs.Calls.{made, madeNumber, stepped, cleared}
 use Rattle.ring.specs.Ring.{inRange, last128}
 use Rattle.moments.specs.declared.Row.{Row}
 use Rattle.moments.specs.declared.Moments.{Moments}
-use Rattle.moments.specs.Moments.{none, realRows, found, noRow, past, momentAt, rowOf, kept, emptiedBy}
+use Rattle.moments.specs.Moments.{none, placeOf, realRows, rowAt, found, noRow, past, momentAt, rowOf, kept, emptiedBy, rowIn}
 use Rattle.moments.specs.Recordings.{Call, afterAll, notedAll, readAll, Rings}
 
 -- ════ from an empty record, through any calls cs
@@ -43,6 +43,11 @@ pub record ReadAsEmpty (m : Moments) : Type 0 where
 abbrev pub WildCounts : Type 0
 WildCounts = (m : Moments) → Rings m → inRange (m .next) (m .real) ≡ false → ReadAsEmpty m
 
+-- its row i stands at the place (next − real + i) modulo 128 of each ring
+abbrev pub RowByTheModulo : Type 0
+RowByTheModulo = (m : Moments) (i : ℕ) → Rings m → i < realRows m →
+    rowAt m i ≡ rowIn m (natAbs (modulo (pos (placeOf m) -ℤ pos (realRows m) +ℤ pos i) (pos 128)))
+
 -- whether i is a row of it
 unfoldable pub isRow : Moments → ℤ → Bool
 isRow m (pos i) = ltb i (realRows m)
@@ -57,7 +62,7 @@ abbrev pub NineteenPastTheRows : Type 0
 NineteenPastTheRows = (m : Moments) (i : ℤ) → ZeroOrNineteen m i
 
 -- an accepted clear or start leaves an empty record, whatever it was; a refused call leaves every word as it is
-pub record Calls (d : Drive) (m : Moments) : Type 0 where
+pub record LeftByEach (d : Drive) (m : Moments) : Type 0 where
   pub step-refused : (ia ib count : ℤ) → equal (pos 0) (stepped d ia ib count .number) ≡ false → kept m ia ib (stepped d ia ib count) ≡ m
   pub cleared-empty : cleared d .number ≡ pos 0 → emptiedBy m (cleared d .number) ≡ none
   pub clear-refused : equal (pos 0) (cleared d .number) ≡ false → emptiedBy m (cleared d .number) ≡ m
@@ -65,4 +70,4 @@ pub record Calls (d : Drive) (m : Moments) : Type 0 where
   pub start-refused : (s : Settings) → equal (pos 0) (madeNumber (made s)) ≡ false → emptiedBy m (madeNumber (made s)) ≡ m
 
 abbrev pub EmptiedOrKept : Type 0
-EmptiedOrKept = (d : Drive) (m : Moments) → Calls d m
+EmptiedOrKept = (d : Drive) (m : Moments) → LeftByEach d m
