@@ -15,8 +15,9 @@ use Rattle.fixed.proofs.DownLaws.{modulo-unique}
 use Rattle.fixed.proofs.Choice.{choose}
 use Rattle.fixed.proofs.Ranges.{two}
 use Rattle.fixed.proofs.HeldLaws.{and-both, within-lo, within-yes, within-size}
+use Rattle.ring.specs.declared.Counts.{Counts}
 use Rattle.ring.specs.declared.Place.{Place}
-use Rattle.ring.specs.Ring.{inRange, placeIn, rowsIn, placeAfter, oneMore, spotOf, placeOfRow, noPlace, placeAt, rowPlace}
+use Rattle.ring.specs.Ring.{inRange, placeIn, rowsIn, countsIn, placeAfter, oneMore, spotOf, placeOfRow, noPlace, placeAt, rowPlace}
 
 -- ════ the counts
 -- what the test of the counts says of each
@@ -46,6 +47,11 @@ pub rows-most : (next real : ℤ) → rowsIn next real ≤ 128
 unfolding rowsIn
 rows-most next real =
     choose (λ (n : ℕ). n ≤ 128) (inRange next real) (natAbs real) 0 (λ e. in-range→ next real e .real-low) (λ e. omega arith)
+
+-- as the code reads them
+pub counts-fit : (next real : ℤ) {c : Counts} → c ≡ countsIn next real → (c .place < 128) × (c .rows ≤ 128)
+unfolding countsIn
+counts-fit next real e = rw e (place-below next real, rows-most next real)
 
 -- ════ the counts after a row
 pub after-below : (at : ℕ) → placeAfter at < 128

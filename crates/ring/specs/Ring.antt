@@ -6,6 +6,7 @@ use lib.Dec.{ltb}
 use lib.IntN.{ℤ, pos, negsuc, natAbs}
 use lib.ListN.{length, take, drop}
 use Rattle.fixed.specs.Fixed.{within}
+use Rattle.ring.specs.declared.Counts.{Counts}
 use Rattle.ring.specs.declared.Spot.{Spot}
 use Rattle.ring.specs.declared.Place.{Place}
 
@@ -20,6 +21,9 @@ placeIn next real = cond (inRange next real) (natAbs next) 0
 
 unfoldable pub rowsIn : ℤ → ℤ → ℕ
 rowsIn next real = cond (inRange next real) (natAbs real) 0
+
+unfoldable pub countsIn : ℤ → ℤ → Counts
+countsIn next real = record { place = placeIn next real; rows = rowsIn next real }
 
 -- ════ where a row goes
 -- the place after a place, which after 127 is 0; one row more, of 128 at most

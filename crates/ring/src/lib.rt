@@ -5,8 +5,8 @@ ghost use Prim.Native.Nat.{_<_, _≤_};
 ghost use lib.IntN.{pos};
 ghost use Rattle.ring.specs.Ring.{
   inRange,
-  placeIn,
   rowsIn,
+  countsIn,
   placeAfter,
   oneMore,
   spotOf,
@@ -15,6 +15,12 @@ ghost use Rattle.ring.specs.Ring.{
   placeAt,
   rowPlace,
 };
+
+// The place of the next row and the real rows, as they are read.
+pub struct Counts {
+    pub place: u32,
+    pub rows: u32,
+}
 
 // Where a row goes, and the counts after it.
 pub struct Spot {
@@ -35,25 +41,25 @@ fn in_range(next: i32, real: i32) -> bool
     fixed::within(0, 127, next) & fixed::within(0, 128, real)
 }
 
-// The place of the next row; 0 where a count is out of range.
-fn place_in(next: i32, real: i32) -> u32
-    ensures { λ r. ⌜ r ≡ placeIn next real ⌝ }
+// The two counts, as they are read: both are 0 where either is out of range.
+fn counts_in(next: i32, real: i32) -> Counts
+    ensures { λ r. ⌜ r ≡ countsIn next real ⌝ }
 {
-    if in_range(next, real) { next as u32 } else { 0 }
-}
-
-// The real rows; none where a count is out of range.
-fn rows_in(next: i32, real: i32) -> u32
-    ensures { λ r. ⌜ r ≡ rowsIn next real ⌝ }
-{
-    if in_range(next, real) { real as u32 } else { 0 }
+    if in_range(next, real) {
+        return Counts {
+            place: next as u32,
+            rows: real as u32,
+        };
+    }
+    Counts { place: 0, rows: 0 }
 }
 
 // How many rows are real, for a caller.
 pub fn count_in(next: i32, real: i32) -> i32
     ensures { λ r. ⌜ r ≡ pos (rowsIn next real) ⌝ }
 {
-    rows_in(next, real) as i32
+    let c = counts_in(next, real);
+    c.rows as i32
 }
 
 fn place_after(at: u32) -> u32
@@ -72,12 +78,11 @@ fn one_more(real: u32) -> u32
 pub fn spot_for(next: i32, real: i32) -> Spot
     ensures { λ r. ⌜ r ≡ spotOf next real ⌝ }
 {
-    let place = place_in(next, real);
-    let rows = rows_in(next, real);
-    let after = place_after(place);
-    let more = one_more(rows);
+    let c = counts_in(next, real);
+    let after = place_after(c.place);
+    let more = one_more(c.rows);
     Spot {
-        at: place as usize,
+        at: c.place as usize,
         next: after as i32,
         real: more as i32,
     }
@@ -101,10 +106,10 @@ fn no_place() -> Place
 fn place_at(next: i32, real: i32, k: u32) -> Place
     ensures { λ r. ⌜ r ≡ placeAt next real k ⌝ }
 {
-    let rows = rows_in(next, real);
+    let c = counts_in(next, real);
+    let rows = c.rows;
     if k < rows {
-        let place = place_in(next, real);
-        let at = place_of_row(place, rows, k) as usize;
+        let at = place_of_row(c.place, rows, k) as usize;
         return Place { number: 0, at: at };
     }
     no_place()
