@@ -60,7 +60,7 @@ static void words(const mirgalhet_drive *d)
            (int)d->shaft.count, (int)d->shaft.seen, (int)d->shaft.sum, (int)d->shaft.steps, (int)d->shaft.speed);
     printf("target %d reference %d torque %d flux %d\n",
            (int)d->command.target, (int)d->command.reference, (int)d->command.torque, (int)d->command.flux);
-    printf("field flux %d angle %d\n", (int)d->field.flux, (int)d->field.angle);
+    printf("field fine %d flux %d angle %d\n", (int)d->field.fine, (int)mirgalhet_flux(d->field.fine), (int)d->field.angle);
     printf("integrals %d %d %d tripped %d\n",
            (int)d->integrals.speed, (int)d->integrals.d, (int)d->integrals.q, (int)d->tripped);
 }
@@ -126,6 +126,15 @@ static void broken(mirgalhet_drive *d)
     refused(d);
     printf("start %d\n", (int)mirgalhet_start(d, bench()));
     row(d, 0, 0, 0);
+}
+
+/* The flux of any word at all, which is rounded down below 0 too. */
+static void fluxes(void)
+{
+    static const int32_t fines[] = {INT32_MIN, -81920000, -4097, -4096, -1, 0, 4095, 4096, 81920000, INT32_MAX};
+
+    for (size_t k = 0; k < sizeof fines / sizeof fines[0]; k++)
+        printf("fine %d flux %d\n", (int)fines[k], (int)mirgalhet_flux(fines[k]));
 }
 
 /* Past a tick, and every word of the record then. */
@@ -208,6 +217,7 @@ int main(void)
     rows(&d);
     cleared(&d);
     broken(&d);
+    fluxes();
     ticked(&d);
     recorded(&d);
     return 0;

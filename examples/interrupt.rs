@@ -46,7 +46,7 @@ pub struct Command {
 #[repr(C)]
 #[derive(Clone, Copy, Default)]
 pub struct Field {
-    pub flux: i32,
+    pub fine: i32,
     pub angle: i32,
 }
 
@@ -91,7 +91,7 @@ macro_rules! layout {
 layout!(Settings 60: t 0, skp 4, skcor 8, ski 12, ckp 16, ckcor 20, cki 24, v 28, q 32, kr 36, kt 40, kth 44, kn 48, f 52, r 56);
 layout!(Shaft 20: count 0, seen 4, sum 8, steps 12, speed 16);
 layout!(Command 16: target 0, reference 4, torque 8, flux 12);
-layout!(Field 8: flux 0, angle 4);
+layout!(Field 8: fine 0, angle 4);
 layout!(Integrals 12: speed 0, d 4, q 8);
 layout!(Drive 120: settings 0, shaft 60, command 80, field 96, integrals 104, tripped 116);
 layout!(Output 28: a 0, b 4, c 8, number 12, clipped 16, alpha 20, beta 24);

@@ -62,6 +62,7 @@
  *   gains     4096 is 1.0
  *   current   4096 is the base current, which the scaling of the samples chooses
  *   flux      as a current: the d current that keeps that flux up
+ *   fine      4096 is 1 of the flux
  *   speed     4096 is the base speed: without slip the rotor flux then turns fb times a second
  *   voltage   4096 is the bus voltage divided by the square root of 3
  *   angle     65536 is one turn of the rotor flux
@@ -134,7 +135,7 @@ typedef struct mirgalhet_command {
 } mirgalhet_command;
 
 typedef struct mirgalhet_field {
-    int32_t flux;  /* the rotor's, by the flux model, within +-20000 */
+    int32_t fine;  /* the rotor's flux with twelve more bits, by the flux model, within +-81920000: mirgalhet_flux gives the flux */
     int32_t angle; /* of the rotor flux, 0..65535 */
 } mirgalhet_field;
 
@@ -218,6 +219,9 @@ int32_t mirgalhet_target(mirgalhet_drive *d, int32_t wanted);
  *   10       the drive is not tripped; *d is as it was. */
 int32_t mirgalhet_clear(mirgalhet_drive *d);
 
+/* The flux of the word fine of a record: fine/4096 rounded down, also below 0. Of a record that is not broken it is within +-20000. */
+int32_t mirgalhet_flux(int32_t fine);
+
 /* mirgalhet_start, and an empty record beside the drive.
  *   0        *d is the fresh drive of these settings, every word of *m is 0.
  *   1 to 5   the settings are refused; *d and *m are as they were. */
@@ -280,7 +284,7 @@ MIRGALHET_AT(mirgalhet_command, reference, 4);
 MIRGALHET_AT(mirgalhet_command, torque, 8);
 MIRGALHET_AT(mirgalhet_command, flux, 12);
 MIRGALHET_SIZE(mirgalhet_field, 8);
-MIRGALHET_AT(mirgalhet_field, flux, 0);
+MIRGALHET_AT(mirgalhet_field, fine, 0);
 MIRGALHET_AT(mirgalhet_field, angle, 4);
 MIRGALHET_SIZE(mirgalhet_integrals, 12);
 MIRGALHET_AT(mirgalhet_integrals, speed, 0);

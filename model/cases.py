@@ -154,15 +154,17 @@ SPEED = [
     step(steps=29, target=8191, reference=8191),
 ]
 
+# At flux 40 and at 41; then from 40 to 41 and back in one step, since it is the new flux that counts.
 SLIP = [
-    step(flux=40, sample=(40, 500, 0)),
-    step(flux=41, sample=(41, 500, 0)),
+    step(fine=4096 * 40, sample=(40, 500, 0)),
+    step(fine=4096 * 41, sample=(41, 500, 0)),
+    step(fine=4096 * 41 - 1, sample=(42, 500, 0)),
+    step(fine=4096 * 41, sample=(40, 500, 0)),
 ]
 
-FLUX = [
-    step(flux=2403, sample=(2458, 0, 0)),
-    step(flux=2404, sample=(2458, 0, 0)),
-]
+# From 2404, one step and the next; at rest below d, at it, and 1 above; and products that 32 bits do not hold.
+FLUX = [step(fine=fine, sample=(2458, 0, 0)) for fine in (4096 * 2404, 9850834, 10067913, 10067914, 4096 * 2458, 4096 * 2458 + 1)]
+FLUX += [step(fine=fine, Kr=4096, sample=(ia, 0, 0)) for fine, ia in ((-81920000, 8191), (81920000, -8191))]
 
 # At angle 0 and no error the integrals are vα and vβ.
 MODULATION = [step(flux_reference=0, d_integral=valpha, q_integral=vbeta)
@@ -174,7 +176,7 @@ REGULATORS = [
     step(d_integral=-4096, sample=(8191, -4096, 0)),
 ]
 
-SINE = [step(speed=1000, flux=1000, angle=angle, sample=(1000, -300, 0)) for angle in (0, 255, 256, 16384, 65535)]
+SINE = [step(speed=1000, fine=4096000, angle=angle, sample=(1000, -300, 0)) for angle in (0, 255, 256, 16384, 65535)]
 
 # Backwards over 0.
 ANGLE = [step(speed=-25)]
@@ -191,7 +193,7 @@ TARGET_ORDER = [
 ]
 
 CLEAR = [
-    clear(count=9, seen=True, sum=2, steps=3, target=1, flux=5, angle=77, tripped=True),
+    clear(count=9, seen=True, sum=2, steps=3, target=1, fine=5, angle=77, tripped=True),
     clear(),
     clear(angle=-1, tripped=True),
 ]

@@ -35,7 +35,7 @@ BENCH = {setting.name: setting.bench for setting in SETTINGS}
 
 # The drive record: its words, in order. Their ranges are in word_ranges, since some depend on settings or on another word.
 WORDS = [
-    'count', 'seen', 'sum', 'steps', 'speed', 'target', 'reference', 'torque', 'flux_reference', 'flux', 'angle',
+    'count', 'seen', 'sum', 'steps', 'speed', 'target', 'reference', 'torque', 'flux_reference', 'fine', 'angle',
     'speed_integral', 'd_integral', 'q_integral', 'tripped',
 ]
 
@@ -85,7 +85,7 @@ def word_ranges(record):
         'reference': (-8191, 8191),
         'torque': (-record['Q'], record['Q']),
         'flux_reference': (0, record['F']),
-        'flux': (-20000, 20000),
+        'fine': (-81920000, 81920000),
         'angle': (0, 65535),
         'speed_integral': (-record['Q'], record['Q']),
         'd_integral': (-record['V'], record['V']),
@@ -270,8 +270,12 @@ def park(alpha, beta, sin, cos):
 
 # 6. Flux model
 
-def flux_after(flux, d, kr):
-    return flux + kr * (d - flux) // 4096
+def fine_after(fine, d, kr):
+    return fine + kr * (4096 * d - fine) // 4096
+
+
+def flux_of(fine):
+    return fine // 4096
 
 
 def slip(flux, q, kt):
@@ -285,9 +289,9 @@ def angle_after(angle, speed_and_slip, kth):
 
 
 def flux_model(record, d, q):
-    flux = flux_after(record['flux'], d, record['Kr'])
-    angle = angle_after(record['angle'], record['speed'] + slip(flux, q, record['Kt']), record['Kth'])
-    return {**record, 'flux': flux, 'angle': angle}
+    fine = fine_after(record['fine'], d, record['Kr'])
+    angle = angle_after(record['angle'], record['speed'] + slip(flux_of(fine), q, record['Kt']), record['Kth'])
+    return {**record, 'fine': fine, 'angle': angle}
 
 
 # 7. Current regulators

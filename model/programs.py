@@ -97,9 +97,9 @@ class Place:
     def words(self):
         for line in ('count %(count)d seen %(seen)d sum %(sum)d steps %(steps)d speed %(speed)d',
                      'target %(target)d reference %(reference)d torque %(torque)d flux %(flux_reference)d',
-                     'field flux %(flux)d angle %(angle)d',
+                     'field fine %(fine)d flux %(flux)d angle %(angle)d',
                      'integrals %(speed_integral)d %(d_integral)d %(q_integral)d tripped %(tripped)d'):
-            self.write(line % self.record)
+            self.write(line % {**self.record, 'flux': drive.flux_of(self.record['fine'])})
 
 
 def kept(is_kept):
@@ -140,6 +140,11 @@ def calls_broken(place):
     calls_refused(place)
     place.write('start %d' % place.start(drive.BENCH))
     place.row(0, 0, 0)
+
+
+def calls_fluxes(place):
+    for fine in (-2147483648, -81920000, -4097, -4096, -1, 0, 4095, 4096, 81920000, 2147483647):
+        place.write('fine %d flux %d' % (fine, drive.flux_of(fine)))
 
 
 def calls_ticked(place):
@@ -223,6 +228,7 @@ def calls():
     calls_rows(place)
     calls_cleared(place)
     calls_broken(place)
+    calls_fluxes(place)
     calls_ticked(place)
     calls_recorded(place)
     return text_of(place.lines)
@@ -300,3 +306,23 @@ def moments():
     desk.write('clear %d' % desk.recorded_clear())
     desk.rows()
     return text_of(desk.lines)
+
+
+# examples/flux.c
+
+def flux():
+    """What examples/flux.c writes."""
+    place = Place()
+    place.write('start %d' % place.start(drive.BENCH))
+    up, refused = False, 0
+    for steps in range(1, 10001):
+        refused = refused or place.step(2458, -1229, 0).number
+        reckoned = drive.flux_of(place.record['fine'])
+        if not up and reckoned >= 2458 * 19 // 20:
+            up = True
+            number, place.record = drive.target(place.record, 2048)
+            place.write('flux %d after %d steps, target %d' % (reckoned, steps, number))
+        if steps in (1, 2, 10, 50, 100, 200, 400, 422, 423, 687, 688, 10000):
+            place.write('after %d steps: flux %d, fine %d' % (steps, reckoned, place.record['fine']))
+    place.write('refused %d' % refused)
+    return text_of(place.lines)

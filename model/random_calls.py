@@ -14,7 +14,7 @@ HIGHEST_NUMBER = 2147483647
 
 # Values at which a rule changes, or next to them.
 NOTABLE = {
-    'flux': [39, 40, 41, 42, 43],
+    'fine': [4096 * flux + rest for flux in (39, 40, 41, 42, 43) for rest in (-1, 0, 2048)],
     'speed': [-4097, -4096, 0, 4096, 4097],
     'angle': [255, 256, 16383, 16384, 32768, 49152, 65280],
     'count': [1, 32767, 32768],

@@ -74,9 +74,9 @@ def accepted_step_with_the_new_angle(record, ia, ib, count):
 
 
 def flux_model_with_the_slip_of_the_old_flux(record, d, q):
-    flux = drive.flux_after(record['flux'], d, record['Kr'])
-    slip = drive.slip(record['flux'], q, record['Kt'])
-    return {**record, 'flux': flux, 'angle': drive.angle_after(record['angle'], record['speed'] + slip, record['Kth'])}
+    fine = drive.fine_after(record['fine'], d, record['Kr'])
+    slip = drive.slip(drive.flux_of(record['fine']), q, record['Kt'])
+    return {**record, 'fine': fine, 'angle': drive.angle_after(record['angle'], record['speed'] + slip, record['Kth'])}
 
 
 def slip_from_42_on(flux, q, kt):
@@ -87,8 +87,18 @@ def slip_towards_zero(flux, q, kt):
     return 0 if flux < 41 else drive.held(towards_zero(kt * q, flux), -16383, 16383)
 
 
-def flux_towards_zero(flux, d, kr):
-    return flux + towards_zero(kr * (d - flux), 4096)
+def fine_towards_zero(fine, d, kr):
+    return fine + towards_zero(kr * (4096 * d - fine), 4096)
+
+
+def fine_in_the_old_bits(fine, d, kr):
+    """The flux without its twelve bits more, which rests where Kr times the gap is less than 4096."""
+    flux = drive.flux_of(fine)
+    return 4096 * (flux + kr * (d - flux) // 4096)
+
+
+def fine_by_a_product_of_32_bits(fine, d, kr):
+    return fine + ((kr * (4096 * d - fine) + 2 ** 31) % 2 ** 32 - 2 ** 31) // 4096
 
 
 def weakening_by_4095(speed, flux_up_to_base_speed):
@@ -153,7 +163,9 @@ WRONG_RULES = [
     ('slip of the old flux', 'flux_model', flux_model_with_the_slip_of_the_old_flux),
     ('slip from flux 42 on', 'slip', slip_from_42_on),
     ('slip rounded towards zero', 'slip', slip_towards_zero),
-    ('flux rounded towards zero', 'flux_after', flux_towards_zero),
+    ('the fine flux rounded towards zero', 'fine_after', fine_towards_zero),
+    ('the flux in the old bits', 'fine_after', fine_in_the_old_bits),
+    ('the product of the fine flux in 32 bits', 'fine_after', fine_by_a_product_of_32_bits),
     ('weakening from 4096 on, by 4095', 'weakened_flux', weakening_by_4095),
     ('a tick at 28 steps', 'is_tick', tick_at_28),
     ('a tick with the old reference', 'tick', tick_with_the_old_reference),

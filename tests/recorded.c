@@ -102,7 +102,7 @@ static void put_drive(void)
     d->command.reference = number();
     d->command.torque = number();
     d->command.flux = number();
-    d->field.flux = number();
+    d->field.fine = number();
     d->field.angle = number();
     d->integrals.speed = number();
     d->integrals.d = number();
@@ -136,7 +136,7 @@ static void show_drive(void)
 {
     const int32_t words[] = {
         d->shaft.count, d->shaft.seen, d->shaft.sum, d->shaft.steps, d->shaft.speed,
-        d->command.target, d->command.reference, d->command.torque, d->command.flux, d->field.flux, d->field.angle,
+        d->command.target, d->command.reference, d->command.torque, d->command.flux, d->field.fine, d->field.angle,
         d->integrals.speed, d->integrals.d, d->integrals.q, d->tripped,
     };
 

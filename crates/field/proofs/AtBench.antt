@@ -3,8 +3,8 @@
 use mathlib.Core.Path.{_≡_, refl}
 use lib.IntN.{pos}
 use Rattle.fixed.specs.Fixed.{down, modulo}
-use Rattle.field.specs.Field.{fluxNext, slip, angleNext, followed, still}
+use Rattle.field.specs.Field.{fineNext, fluxOf, slip, angleNext, followed, still}
 
 pub stays-still : followed (pos 75) (pos 310) (pos 164) still (pos 0) (pos 0) (pos 0) ≡ still
-unfolding followed fluxNext slip angleNext modulo down
+unfolding followed fineNext fluxOf slip angleNext modulo down
 stays-still = refl

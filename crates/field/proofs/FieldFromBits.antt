@@ -10,11 +10,11 @@ use Rattle.field.specs.declared.Field.{Field}
 use Rattle.field.proofs.Field.{the-type}
 
 pub record FromBits (this : Field) : Type 0 where
-  pub flux : m32 (this .flux) ≡ this .flux
+  pub fine : m32 (this .fine) ≡ this .fine
   pub angle : m32 (this .angle) ≡ this .angle
 
 pub from-bits : (this : Field) (vss : Valss (fields the-type)) → AreAll (fields the-type) (the-type .to this) vss → FromBits this
 from-bits this vss g = record {
-  flux = toZ-ofZ (record { sfits = g .0 .1 });
+  fine = toZ-ofZ (record { sfits = g .0 .1 });
   angle = toZ-ofZ (record { sfits = g .1 .0 .1 });
 }

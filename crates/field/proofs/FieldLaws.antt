@@ -1,8 +1,8 @@
--- What the flux model keeps: the flux lies between where it was and d, so that it stays within whatever bounds both; the slip is within
+-- What the flux model keeps: the fine flux lies between where it was and 4096·d, so that it stays within what bounds both; the slip is within
 -- ±16383; the angle is within 0..65535.
 -- Assumes nothing.
 use mathlib.Core.Path.{_≡_}
-use Prim.Native.Nat.{ℕ, _≤_}
+use Prim.Native.Nat.{_≤_}
 use native.Mathlib.Omega.{arith}
 use lib.IntN.{ℤ, pos, negℤ, natAbs, _+ℤ_, _-ℤ_, _*ℤ_}
 use lib.Signed.{_≤ℤ_, _<ℤ_, ltZ, ltZ-yes}
@@ -10,9 +10,10 @@ use Rattle.fixed.specs.Fixed.{down, held, Between}
 use Rattle.fixed.proofs.Parts.{order, diffs, is-diff, cond-ind}
 use Rattle.fixed.proofs.Ring.{*-nonneg, gap-up, gap-down}
 use Rattle.fixed.proofs.Between.{between-size, moved-between}
+use Rattle.fixed.proofs.Size.{abs-*≤}
 use Rattle.fixed.proofs.DownLaws.{modulo-lo, modulo-hi}
 use Rattle.fixed.proofs.HeldLaws.{held-size, if-less, if-not-less}
-use Rattle.field.specs.Field.{fluxNext, slip, angleNext, slipEnd}
+use Rattle.field.specs.Field.{fineNext, slip, angleNext, fineEnd, fluxEnd, slipEnd}
 
 -- 0 ≤ k ≤ 4096: k·g lies between 0 and 4096·g, so less than 4096 past either
 below-gap : (k g : ℤ) → pos 0 ≤ℤ ((pos 4096 -ℤ k) *ℤ g) → (k *ℤ g) <ℤ (pos 4096 *ℤ (g +ℤ pos 1))
@@ -24,17 +25,18 @@ above-gap k g = rw (is-diff k, is-diff g) (simp diffs (omega arith))
 below-zero : (k g : ℤ) → pos 0 ≤ℤ (k *ℤ negℤ g) → (k *ℤ g) <ℤ pos 4096
 below-zero k g = rw (is-diff k, is-diff g) (simp diffs (omega arith))
 
-pub flux-between : (kr flux d : ℤ) → pos 0 ≤ℤ kr → kr ≤ℤ pos 4096 → Between flux (fluxNext kr flux d) d
-unfolding fluxNext
-flux-between kr flux d k0 k1 =
-    let g = d -ℤ flux in
-    moved-between (pos 4096) flux d (kr *ℤ g) (ltZ-yes tt)
-    (λ h. (*-nonneg k0 (gap-up flux d h), below-gap kr g (*-nonneg (gap-up kr (pos 4096) k1) (gap-up flux d h))))
-    (λ h. (above-gap kr g (*-nonneg (gap-up kr (pos 4096) k1) (gap-down d flux h)), below-zero kr g (*-nonneg k0 (gap-down d flux h))))
+pub fine-between : (kr fine d : ℤ) → pos 0 ≤ℤ kr → kr ≤ℤ pos 4096 → Between fine (fineNext kr fine d) (pos 4096 *ℤ d)
+unfolding fineNext
+fine-between kr fine d k0 k1 =
+    let o = pos 4096 *ℤ d in
+    let g = o -ℤ fine in
+    moved-between (pos 4096) fine o (kr *ℤ g) (ltZ-yes tt)
+    (λ h. (*-nonneg k0 (gap-up fine o h), below-gap kr g (*-nonneg (gap-up kr (pos 4096) k1) (gap-up fine o h))))
+    (λ h. (above-gap kr g (*-nonneg (gap-up kr (pos 4096) k1) (gap-down o fine h)), below-zero kr g (*-nonneg k0 (gap-down o fine h))))
 
--- so it stays within ±20000, as d does
-pub flux-size : (kr flux d : ℤ) (m : ℕ) → pos 0 ≤ℤ kr → kr ≤ℤ pos 4096 → natAbs flux ≤ m → natAbs d ≤ m → natAbs (fluxNext kr flux d) ≤ m
-flux-size kr flux d m k0 k1 = between-size m (flux-between kr flux d k0 k1)
+-- so it stays within ±81920000, as 4096·d does
+pub fine-size : (kr fine d : ℤ) → pos 0 ≤ℤ kr → kr ≤ℤ pos 4096 → natAbs fine ≤ fineEnd → natAbs d ≤ fluxEnd → natAbs (fineNext kr fine d) ≤ fineEnd
+fine-size kr fine d k0 k1 h k = between-size fineEnd (fine-between kr fine d k0 k1) h (abs-*≤ 4096 fluxEnd (pos 4096) d (omega arith) k)
 
 -- below 41 the slip is 0, from 41 on it is the quotient
 pub slip-none : (kt flux q : ℤ) → flux <ℤ pos 41 → slip kt flux q ≡ pos 0

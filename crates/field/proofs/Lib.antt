@@ -3,3 +3,5 @@ pub mod Cases
 pub mod FieldFromBits
 pub mod FieldRanges
 pub mod AtBench
+pub mod Arriving
+pub mod FromRest

@@ -3,10 +3,12 @@ ghost use mathlib.Core.Path.{_≡_};
 ghost use Prim.Native.Nat.{_≤_};
 ghost use lib.IntN.{natAbs, _+ℤ_};
 ghost use Rattle.field.specs.Field.{
-  fluxNext,
+  fineNext,
+  fluxOf,
   slip as slipOf,
   angleNext,
   followed as followedOf,
+  fineEnd,
   fluxEnd,
   slipEnd,
   speedEnd,
@@ -16,19 +18,27 @@ ghost use Rattle.field.specs.Field.{
   FieldSized,
 };
 
+// The flux is kept with twelve bits more than it is read with: small rises would else round away, and it would rest below d.
 #[repr(C)]
 pub struct Field {
-    pub flux: i32,
+    pub fine: i32,
     pub angle: i32,
 }
 
-// The flux follows d with the rotor's time constant.
-fn flux_next(kr: i32, flux: i32, d: i32) -> i32
-    requires { ⌜ (natAbs kr ≤ 4096) × (natAbs flux ≤ fluxEnd) × (natAbs d ≤ fluxEnd) ⌝ }
-    ensures { λ r. ⌜ r ≡ fluxNext kr flux d ⌝ }
+// The fine flux follows 4096·d with the rotor's time constant. The gap fits 32 bits, its product with Kr does not: `scaled` forms it in 64.
+fn fine_next(kr: i32, fine: i32, d: i32) -> i32
+    requires { ⌜ (natAbs kr ≤ 4096) × (natAbs fine ≤ fineEnd) × (natAbs d ≤ fluxEnd) ⌝ }
+    ensures { λ r. ⌜ r ≡ fineNext kr fine d ⌝ }
 {
-    let change = fixed::scaled(kr, d - flux, 4096) as i32;
-    flux + change
+    let change = fixed::scaled(kr, 4096 * d - fine, 4096) as i32;
+    fine + change
+}
+
+// The flux, which is what everything else reads.
+pub fn flux_of(fine: i32) -> i32
+    ensures { λ r. ⌜ r ≡ fluxOf fine ⌝ }
+{
+    fixed::down(fine as i64, 4096) as i32
 }
 
 // The slip; where there is hardly any flux it is not divided by.
@@ -56,10 +66,12 @@ pub fn followed(kr: i32, kt: i32, kth: i32, f: Field, d: i32, q: i32, n: i32) ->
     requires { ⌜ FieldSized kr kt kth f d q n ⌝ }
     ensures { λ r. ⌜ r ≡ followedOf kr kt kth f d q n ⌝ }
 {
-    let flux = flux_next(kr, f.flux, d);
+    let old = f.fine;
+    let fine = fine_next(kr, old, d);
+    let flux = flux_of(fine);
     let s = slip(kt, flux, q);
     Field {
-        flux: flux,
+        fine: fine,
         angle: angle_next(kth, f.angle, n, s),
     }
 }
@@ -68,12 +80,12 @@ pub fn followed(kr: i32, kt: i32, kth: i32, f: Field, d: i32, q: i32, n: i32) ->
 pub fn still() -> Field
     ensures { λ r. ⌜ r ≡ stillOf ⌝ }
 {
-    Field { flux: 0, angle: 0 }
+    Field { fine: 0, angle: 0 }
 }
 
 // Whether the words of any field are in range.
 pub fn field_ok(f: Field) -> bool
     ensures { λ r. ⌜ r ≡ fieldOk f ⌝ }
 {
-    fixed::within(-20000, 20000, f.flux) & fixed::within(0, 65535, f.angle)
+    fixed::within(-81920000, 81920000, f.fine) & fixed::within(0, 65535, f.angle)
 }

@@ -1,7 +1,8 @@
-// The interrupt side: the drive record lies where C has it and is changed in place. Each of the four calls hands the record to the
+// The interrupt side: the drive record lies where C has it and is changed in place. Each of the four calls on it hands the record to the
 // function of `drive` that takes it by value, stores the record that comes back, and answers with the rest. The calls move the record
 // whole and look at no word of it.
 ghost use mathlib.Core.Path.{_≡_};
+ghost use Rattle.field.specs.Field.{fluxOf};
 ghost use Rattle.drive.specs.Calls.{made, madeNumber, stepped, targeted, cleared};
 ghost use Rattle.interrupt.specs.Interrupt.{outputOf, driveOr, started as startedOf};
 use drive::Answered;
@@ -111,4 +112,12 @@ pub extern "C" fn mirgalhet_start(d: &mut Drive, settings: Settings) -> i32
     let a = started(*d, settings);
     *d = answered_drive(a);
     answered_number(a)
+}
+
+// The flux of a record's word `fine`, for whoever reads the record: C's own division rounds the other way below 0.
+#[no_mangle]
+pub extern "C" fn mirgalhet_flux(fine: i32) -> i32
+    ensures { λ r. ⌜ r ≡ fluxOf fine ⌝ }
+{
+    field::flux_of(fine)
 }

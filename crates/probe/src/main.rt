@@ -85,7 +85,7 @@ fn command_in(n: &[i32; ALL]) -> Command {
 
 fn field_in(n: &[i32; ALL]) -> Field {
     Field {
-        flux: n[RECORD + 9],
+        fine: n[RECORD + 9],
         angle: n[RECORD + 10],
     }
 }
@@ -161,7 +161,7 @@ fn field_out(f: Field, words: &mut [i32], at: usize) -> usize
     requires { ⌜ at + 2 ≤ length (now words) ⌝ }
     ensures { λ r. ⌜ r ≡ at + 2 ⌝ }
 {
-    let a = put_word(f.flux, words, at);
+    let a = put_word(f.fine, words, at);
     put_word(f.angle, words, a)
 }
 

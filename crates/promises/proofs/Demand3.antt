@@ -213,7 +213,7 @@ module _ (d : Drive) (ia ib count : ℤ) (ok : stepped d ia ib count .number ≡
       }
 
 -- ════ of every step, and so of every row: a row is a step of the drive that the rows before it leave
-step-and-row : (Holds : Drive → ℤ → ℤ → ℤ → Type 0) → EachStep Holds → EachStepAndRow Holds
+pub step-and-row : (Holds : Drive → ℤ → ℤ → ℤ → Type 0) → EachStep Holds → EachStepAndRow Holds
 unfolding rowAt rowStepped
 step-and-row Holds h = (h, λ d samples i ok. h (ranOf d samples i .drive) _ _ _ ok)
 

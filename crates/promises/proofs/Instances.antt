@@ -3,6 +3,7 @@
 use mathlib.Core.Path.{_≡_, refl, ap}
 use mathlib.Core.Bool.{false}
 use mathlib.Core.List.{[]}
+use native.Mathlib.Omega.{arith}
 use lib.IntN.{ℤ, pos, negsuc, _-ℤ_}
 use lib.Signed.{ltZ-yes, leZ-yes}
 use Rattle.fixed.proofs.Ranges.{Inside}
@@ -15,15 +16,16 @@ use Rattle.drive.specs.Calls.{fresh, withTrip, retargeted, withTarget}
 use Rattle.drive.proofs.CallLaws.{refused-broken}
 use Rattle.drive.proofs.Kept.{trip-sound, target-sound}
 use Rattle.drive.proofs.AtBench.{bench-sound, bench-intact, targets, once, first}
-use Rattle.rows.specs.Rows.{rowStepped, noRows, ranOf, rowsFit}
-use Rattle.promises.specs.Histories.{afterCall, afterCalls, rowAt, Quiet}
+use Rattle.rows.specs.Rows.{rowStepped, isAccepted, noRows, ranOf, rowsFit}
+use Rattle.promises.specs.Histories.{afterCall, afterCalls, rowAt, Quiet, stepsIn, stepsOf, clears, NoClear}
 use Rattle.promises.specs.Words.{seen, dError, qError, next, speedError}
 use Rattle.promises.specs.Instances.{rested, waiting, untied, spoiled, TablesMet, Taken, StepsMet, TicksMet, HistoryMet, quiet, QuietMet}
 use Rattle.ring.specs.Ring.{inRange, placeIn, rowsIn, placeAfter, oneMore, oldestFirst}
 use Rattle.stages.specs.declared.Stepped.{Stepped}
 use Rattle.moments.specs.Moments.{none, realRows, put, rowAt as momentRow, momentAt, rowOf, kept, recorded}
 use Rattle.moments.specs.Recordings.{after, afterAll}
-use Rattle.promises.specs.Instances.{MomentsMet}
+use Rattle.promises.specs.Flux.{Sees, HeldAt}
+use Rattle.promises.specs.Instances.{rising, FluxMet, MomentsMet}
 use Rattle.promises.proofs.Demand1.{step-table, target-table, clear-table}
 use Rattle.promises.proofs.Demand2.{step-by-the-rules, run-of-none}
 use Rattle.promises.proofs.Window.{quiet-no-clear}
@@ -96,6 +98,27 @@ quiet-met =
     let q : Quiet w quiet = rw (afterCall, target-table w (pos 8192) .then 2 (b, (refl, targets .1)), clear-table w .then 1 (b, refl), run-of-none w [] b .0)
     (refl, refl, (refl, refl, (refl, refl, (a .0, a .1, tt)))) in
     record { intact = b; untripped = refl; calls = q; none-clears = quiet-no-clear w quiet b refl q }
+
+rising-intact : broken rising ≡ false
+unfolding rising withField
+rising-intact =
+    let h = bench-sound in
+    not-broken rising .1
+    (record { settings = h .settings; shaft = h .shaft; command = h .command; field = record { fine = refl; angle = refl }; integrals = h .integrals })
+
+rising-taken : Taken rising (pos 3000)
+unfolding rising withField fresh
+rising-taken = step-table rising (pos 3000) (pos 0) (pos 0) .given 3 .1 (rising-intact, (refl, (value.samples .1, tt)))
+
+pub flux-met : FluxMet
+unfolding next once rising withField withShaft fresh NoClear clears HeldAt Sees seen currents stepsOf stepsIn isAccepted
+flux-met = record {
+  rests = ap (λ s. s .drive .field .fine) first;
+  intact = rising-intact;
+  none-clears = (refl, tt);
+  held = (λ ok. rw (value.sine-at-0, value.cosine-at-0, value.seen .1) refl, tt);
+  enough = rw (rising-taken, value.bench-is) (omega arith);
+}
 
 pub moments-met : MomentsMet
 unfolding afterAll after recorded kept rowOf put none momentAt momentRow oldestFirst placeIn rowsIn inRange placeAfter oneMore

@@ -5,6 +5,7 @@ pub mod Demand3
 pub mod Onward
 pub mod Ramp
 pub mod Window
+pub mod Flux
 pub mod Starred
 pub mod Instances
 pub mod Settled

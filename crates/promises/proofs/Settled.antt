@@ -8,7 +8,7 @@ use contract.Lifetimes.{Lfts}
 use borrow.Fn.Kinds.{PK, RK, Dens, resT, endedOf, In, Out}
 use denote.Triple.Clauses.{AtExit}
 use Rattle.promises.specs.Settled.{Settled, CheckSettled, FreshSettled, MakeSettled, NumberSettled, StepSettled, TargetSettled, ClearSettled}
-use Rattle.promises.specs.Settled.{RunSettled, EmptySettled, RecordedStepSettled, RecordedClearSettled, CountSettled, RowSettled}
+use Rattle.promises.specs.Settled.{RunSettled, EmptySettled, RecordedStepSettled, RecordedClearSettled, CountSettled, RowSettled, FluxSettled}
 
 settled : {n : ℕ} {ps : List (PK n)} {r : RK n} {asks : In n ps} {ensures : Out n ps r} {B : Type 0}
     {outcome : (κs : Lfts n) → resT r κs .Denot → AtExit (endedOf n ps r) κs → B} {definition : (κs : Lfts n) → Dens κs ps → B}
@@ -52,6 +52,9 @@ count-settled = settled (λ κs a. tt) (λ κs a u x. (λ p. p, λ p. p))
 
 pub row-settled : RowSettled
 row-settled = settled (λ κs a. tt) (λ κs a u x. (λ p. p, λ p. p))
+
+pub flux-settled : FluxSettled
+flux-settled = settled (λ κs a. tt) (λ κs a u x. (λ p. p, λ p. p))
 
 -- two equations are one of the pair
 module _ {A B : Type 0} {u v : A} {d e : B} where

@@ -4,11 +4,12 @@ use mathlib.Core.Path.{refl}
 use Rattle.fixed.specs.Fixed.{down, modulo, held}
 use Rattle.regulator.specs.Regulator.{sumOf, outOf, nextOf, regulated}
 use Rattle.frames.specs.Frames.{clarke}
-use Rattle.field.specs.Field.{fluxNext, angleNext}
+use Rattle.field.specs.Field.{fineNext, fluxOf, angleNext}
+use Rattle.field.specs.Promised.{heldFor}
 use Rattle.modulation.specs.Modulation.{entriesOf, bit, sectorNumber, sectorAt, sectorOf, timeOf, clippedTimes, timesOf, compareAt, placed, modulated}
 use Rattle.promises.specs.Starred.{cases, AllHold, StarredHold}
 
 pub starred : StarredHold
-unfolding cases AllHold down modulo held sumOf outOf nextOf regulated clarke fluxNext angleNext
+unfolding cases AllHold down modulo held sumOf outOf nextOf regulated clarke fineNext fluxOf heldFor angleNext
     entriesOf bit sectorNumber sectorAt sectorOf timeOf clippedTimes timesOf compareAt placed modulated
 starred = (refl, (refl, (refl, (refl, (refl, (refl, (refl, (refl, (refl, (refl, (refl, (refl, tt))))))))))))

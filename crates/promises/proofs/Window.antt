@@ -96,7 +96,7 @@ module _ (d : Drive) (h : Sound d) where
       (λ b. intact b, λ b. (λ f. subst (λ f. Q f (noRows d (pos 9), out)) (sym f) still, λ f. subst (λ f. Q f (allRun d samples out)) (sym f) rows))
 
   -- a clear that is not accepted leaves the drive
-  uncleared : clears d clearing ≡ false → cleared d .drive ≡ d
+  pub uncleared : clears d clearing ≡ false → cleared d .drive ≡ d
   unfolding clears
   uncleared =
       holds (clear-climbs d) (λ a. within (pos 0) (pos 0) (a .number) ≡ false → a .drive ≡ d) (λ b e. refl, λ b. (λ t e. refl, λ t e. absurd (true≢false e)))

@@ -2,7 +2,8 @@
 use mathlib.Core.Path.{_≡_}
 use mathlib.Core.Bool.{true, false}
 use mathlib.Core.List.{List, [], _∷_}
-use lib.IntN.{ℤ, pos, negsuc, _*ℤ_}
+use Prim.Native.Nat.{_*_, _≤_}
+use lib.IntN.{ℤ, pos, negsuc, natAbs, _-ℤ_, _*ℤ_}
 use lib.Signed.{_<ℤ_, _≤ℤ_}
 use Rattle.fixed.specs.Ladder.{Reached}
 use Rattle.sine.specs.Sine.{Angle}
@@ -12,15 +13,16 @@ use Rattle.settings.specs.BenchSettings.{benchWith, benchSettings}
 use Rattle.settings.specs.Settings.{accepted}
 use Rattle.drive_record.specs.declared.Drive.{Drive}
 use Rattle.drive_record.specs.Record.{broken}
-use Rattle.stages.specs.Step.{withShaft}
+use Rattle.stages.specs.Step.{withShaft, withField}
 use Rattle.drive.specs.Calls.{fresh, withTrip, stepTable, stepped, withTarget, targetTable, clearTable}
 use Rattle.rows.specs.Rows.{noRows, runTable}
 use Rattle.ring.specs.Ring.{inRange}
 use Rattle.moments.specs.declared.Moments.{Moments}
 use Rattle.moments.specs.Moments.{zeros, none, realRows, found, momentAt}
 use Rattle.moments.specs.Recordings.{stepping as recording, afterAll, Rings}
-use Rattle.promises.specs.Histories.{Call, stepping, aiming, clearing, running, History, rowAt, Quiet, NoClear}
-use Rattle.promises.specs.Words.{dError, qError, speedError}
+use Rattle.promises.specs.Histories.{Call, stepping, aiming, clearing, running, History, rowAt, Quiet, stepsOf, NoClear}
+use Rattle.promises.specs.Words.{dError, qError, next, speedError}
+use Rattle.promises.specs.Flux.{HeldAt}
 
 -- ════ the drives
 -- the bench set, fresh
@@ -101,6 +103,20 @@ pub record QuietMet : Type 0 where
   pub untripped : waiting (pos 100) .tripped ≡ false
   pub calls : Quiet (waiting (pos 100)) quiet
   pub none-clears : NoClear (waiting (pos 100)) quiet
+
+-- ════ the flux: at rest it stays; and with 75 to go to 4096·3000, one step that sees 3000 is enough where Kr is 75
+unfoldable pub rising : Drive
+rising = withField rested (record { fine = pos 12287925; angle = pos 0 }) (rested .integrals)
+
+abbrev pub oneStep : List Call
+oneStep = stepping (pos 3000) (pos 0) (pos 0) ∷ []
+
+pub record FluxMet : Type 0 where
+  pub rests : next rested (pos 0) (pos 0) (pos 0) .field .fine ≡ rested .field .fine
+  pub intact : broken rising ≡ false
+  pub none-clears : NoClear rising oneStep
+  pub held : HeldAt (pos 3000) rising oneStep
+  pub enough : natAbs (pos 4096 *ℤ pos 3000 -ℤ rising .field .fine) ≤ natAbs (rising .settings .kr) * stepsOf rising oneStep
 
 -- ════ the last moments: a recorded step of the drive at rest is read as the one row; and a record has a count out of range
 abbrev pub recordedOnce : Moments

@@ -4,6 +4,7 @@ pub mod Demand2
 pub mod Words
 pub mod Demand3
 pub mod Ramp
+pub mod Flux
 pub mod Starred
 pub mod Instances
 pub mod Settled

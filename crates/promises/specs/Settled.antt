@@ -35,6 +35,9 @@ use Rattle.moments.proofs.real_rows.Reads as real_rows
 use Rattle.moments.proofs.real_rows.Kinds as real_rows-kinds
 use Rattle.moments.proofs.moment.Reads as moment
 use Rattle.moments.proofs.moment.Kinds as moment-kinds
+use Rattle.interrupt.proofs.mirgalhet_flux.Reads as mirgalhet_flux
+use Rattle.interrupt.proofs.mirgalhet_flux.Kinds as mirgalhet_flux-kinds
+use Rattle.field.specs.Field.{fluxOf}
 use Rattle.settings.specs.Settings.{checked}
 use Rattle.drive.specs.Calls.{fresh as freshOf, made, madeNumber, stepped, targeted, cleared}
 use Rattle.rows.specs.Rows.{runOf, outputAfter}
@@ -101,3 +104,7 @@ CountSettled = Settled 0 real_rows-kinds.ps real_rows-kinds.r real_rows.Pre real
 
 abbrev pub RowSettled : Type 0
 RowSettled = Settled 0 moment-kinds.ps moment-kinds.r moment.Pre moment.Post (λ κs u x. u) (λ κs a. momentAt (a .0) (a .1 .0))
+
+-- the flux of a record's word
+abbrev pub FluxSettled : Type 0
+FluxSettled = Settled 0 mirgalhet_flux-kinds.ps mirgalhet_flux-kinds.r mirgalhet_flux.Pre mirgalhet_flux.Post (λ κs u x. u) (λ κs a. fluxOf (a .0))

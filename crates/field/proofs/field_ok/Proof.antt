@@ -12,7 +12,7 @@ returns c =
     let k = c .before .before in
     let s = k .before .before in
     let b = from-bits (s .args .f) _ (s .good .0 .1 .1) in
-    simp (k .within .ensures, c .within2 .ensures, b .flux, b .angle)
+    simp (k .within .ensures, c .within2 .ensures, b .fine, b .angle)
 
 pub field-ok-spec : {M : Type 1} → statement M
 field-ok-spec = tie.close (tie.spec (λ c κs. tt) (λ c κs. tt) returns)

@@ -3,7 +3,7 @@
 use mir.Syntax.{w32}
 use Rattle.fixed.proofs.Reading.{local, bound}
 use Rattle.shaft.proofs.ShaftRanges.{speed-size}
-use Rattle.field.proofs.FieldRanges.{flux-size, angle-size}
+use Rattle.field.proofs.FieldRanges.{fine-size, angle-size}
 use Rattle.frames.proofs.RotorFromBits.{from-bits as rotor-told}
 use Rattle.stages.specs.Step.{fieldAfter}
 use Rattle.drive_record.proofs.Ranges.{sound→}
@@ -30,7 +30,7 @@ followed-requires c κs =
       kr-size = bound (local w32 {x = d .settings .kr} (size.kr-size d h) tt) tt;
       kt-size = bound (local w32 {x = d .settings .kt} (size.kt-size d h) tt) tt;
       kth-size = bound (local w32 {x = d .settings .kth} (size.kth-size d h) tt) tt;
-      flux-size = flux-size (d .field) (h .field);
+      fine-size = fine-size (d .field) (h .field);
       angle-size = angle-size (d .field) (h .field);
       d-size = bound (local w32 {x = i .d} (s .pre .d-size) tt) tt;
       q-size = bound (local w32 {x = i .q} (s .pre .q-size) tt) tt;

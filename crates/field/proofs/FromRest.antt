@@ -1,0 +1,81 @@
+-- The flux from rest, with Kr 75 and d 2458: computed up to where it rests. Below 4096·d it never falls, so that what lies between two computed steps is
+-- between their values.
+-- Assumes nothing.
+use mathlib.Core.Path.{_≡_, refl, sym, ap, _∙_, subst}
+use mathlib.Core.Logic.{_⊎_, inl, inr}
+use Prim.Native.Nat.{ℕ, zero, suc, _+_, _-_, _≤_}
+use native.Mathlib.Omega.{arith}
+use lib.IntN.{ℤ, pos, _*ℤ_}
+use lib.Signed.{_≤ℤ_, ltZ-yes, ≤ℤ-refl}
+use Rattle.fixed.specs.Fixed.{down}
+use Rattle.fixed.proofs.Ring.{≤-trans, ≤-antisym}
+use Rattle.fixed.proofs.DownLaws.{down-mono}
+use Rattle.field.specs.Field.{fineNext, fluxOf}
+use Rattle.field.specs.Promised.{Following, heldFor, fromRest, EndsAt2457}
+use Rattle.field.proofs.Arriving.{fine-between, never-falls}
+
+bench : Following (pos 75)
+bench = record { lo = record { le = tt }; hi = record { le = tt } }
+
+at-422 : fromRest 422 ≡ pos 10063809
+unfolding heldFor fineNext down
+at-422 = refl
+
+at-423 : fromRest 423 ≡ pos 10063885
+unfolding heldFor fineNext down
+at-423 = refl
+
+at-688 : fromRest 688 ≡ pos 10067914
+unfolding heldFor fineNext down
+at-688 = refl
+
+at-rest : fineNext (pos 75) (pos 10067914) (pos 2458) ≡ pos 10067914
+unfolding fineNext down
+at-rest = refl
+
+from-688 : (k : ℕ) → fromRest (k + 688) ≡ pos 10067914
+unfolding heldFor
+from-688 zero = at-688
+from-688 (suc k) =
+    let e : suc (k + 688) ≡ suc k + 688 = omega arith in
+    subst (λ (n : ℕ). fromRest n ≡ pos 10067914) e (ap (λ (z : ℤ). fineNext (pos 75) z (pos 2458)) (from-688 k) ∙ at-rest)
+
+below-d : (n : ℕ) → fromRest n ≤ℤ (pos 4096 *ℤ pos 2458)
+unfolding heldFor
+below-d zero = record { le = tt }
+below-d (suc n) = fine-between (pos 75) (fromRest n) (pos 2458) bench .rising (below-d n) .1
+
+rises : (k n : ℕ) → fromRest n ≤ℤ fromRest (k + n)
+unfolding heldFor
+rises zero n = let e : n ≡ 0 + n = omega arith in subst (λ (m : ℕ). fromRest n ≤ℤ fromRest m) e (≤ℤ-refl (fromRest n))
+rises (suc k) n =
+    let e : suc (k + n) ≡ suc k + n = omega arith in
+    subst (λ (m : ℕ). fromRest n ≤ℤ fromRest m) e (≤-trans (rises k n) (never-falls (pos 75) (fromRest (k + n)) (pos 2458) bench (below-d (k + n))))
+
+-- so the flux at a step is between those at a step before it and at a step behind it
+flux-rises : (k n : ℕ) → fluxOf (fromRest n) ≤ℤ fluxOf (fromRest (k + n))
+unfolding fluxOf
+flux-rises k n = down-mono (fromRest n) (fromRest (k + n)) (pos 4096) (ltZ-yes tt) (rises k n)
+
+-- n is so many steps behind m
+later : (m n : ℕ) → m ≤ n → n ≡ (n - m) + m
+later m n h = omega (arith, h)
+
+rested : (n : ℕ) → 688 ≤ n → fromRest n ≡ pos 10067914
+rested n h = ap fromRest (later 688 n h) ∙ from-688 (n - 688)
+
+flux-of-2457 : (fine : ℤ) → (fine ≡ pos 10063885) ⊎ (fine ≡ pos 10067914) → fluxOf fine ≡ pos 2457
+unfolding fluxOf down
+flux-of-2457 fine (inl e) = ap (λ (z : ℤ). down z (pos 4096)) e
+flux-of-2457 fine (inr e) = ap (λ (z : ℤ). down z (pos 4096)) e
+
+pub ends-at-2457 : EndsAt2457
+unfolding fluxOf down
+ends-at-2457 = record {
+  before = ap fluxOf at-422;
+  flux = λ n h. ≤-antisym
+      (subst (λ (z : ℤ). fluxOf (fromRest n) ≤ℤ z) (flux-of-2457 _ (inr (rested (688 + n) (omega arith)))) (flux-rises 688 n))
+      (subst (λ (z : ℤ). z ≤ℤ fluxOf (fromRest n)) (flux-of-2457 _ (inl at-423))
+      (subst (λ (m : ℕ). fluxOf (fromRest 423) ≤ℤ fluxOf (fromRest m)) (sym (later 423 n h)) (flux-rises (n - 423) 423)));
+  fine = rested;
+}
