@@ -2,7 +2,6 @@
 -- between their values.
 -- Assumes nothing.
 use mathlib.Core.Path.{_≡_, refl, sym, ap, _∙_, subst}
-use mathlib.Core.Logic.{_⊎_, inl, inr}
 use Prim.Native.Nat.{ℕ, zero, suc, _+_, _-_, _≤_}
 use native.Mathlib.Omega.{arith}
 use lib.IntN.{ℤ, pos, _*ℤ_}
@@ -64,18 +63,13 @@ later m n h = omega (arith, h)
 rested : (n : ℕ) → 688 ≤ n → fromRest n ≡ pos 10067914
 rested n h = ap fromRest (later 688 n h) ∙ from-688 (n - 688)
 
-flux-of-2457 : (fine : ℤ) → (fine ≡ pos 10063885) ⊎ (fine ≡ pos 10067914) → fluxOf fine ≡ pos 2457
-unfolding fluxOf down
-flux-of-2457 fine (inl e) = ap (λ (z : ℤ). down z (pos 4096)) e
-flux-of-2457 fine (inr e) = ap (λ (z : ℤ). down z (pos 4096)) e
-
 pub ends-at-2457 : EndsAt2457
 unfolding fluxOf down
 ends-at-2457 = record {
   before = ap fluxOf at-422;
   flux = λ n h. ≤-antisym
-      (subst (λ (z : ℤ). fluxOf (fromRest n) ≤ℤ z) (flux-of-2457 _ (inr (rested (688 + n) (omega arith)))) (flux-rises 688 n))
-      (subst (λ (z : ℤ). z ≤ℤ fluxOf (fromRest n)) (flux-of-2457 _ (inl at-423))
+      (subst (λ (z : ℤ). fluxOf (fromRest n) ≤ℤ z) (ap fluxOf (rested (688 + n) (omega arith))) (flux-rises 688 n))
+      (subst (λ (z : ℤ). z ≤ℤ fluxOf (fromRest n)) (ap fluxOf at-423)
       (subst (λ (m : ℕ). fluxOf (fromRest 423) ≤ℤ fluxOf (fromRest m)) (sym (later 423 n h)) (flux-rises (n - 423) 423)));
   fine = rested;
 }

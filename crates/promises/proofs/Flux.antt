@@ -3,27 +3,27 @@
 use mathlib.Core.Path.{_≡_, refl, sym, _∙_, ap, ap₂, subst}
 use mathlib.Core.Bool.{false}
 use mathlib.Core.List.{List, [], _∷_}
-use Prim.Native.Nat.{ℕ, zero, suc, _+_, _*_, _≤_}
-use native.Mathlib.Nat.{mul-add}
+use Prim.Native.Nat.{ℕ, zero, suc, _+_, _≤_, _<_}
 use native.Mathlib.Omega.{arith}
-use lib.IntN.{ℤ, pos, natAbs, _*ℤ_}
+use lib.IntN.{ℤ, pos, _*ℤ_}
 use Rattle.fixed.specs.Fixed.{Between}
 use Rattle.fixed.proofs.LadderLaws.{holds}
 use Rattle.fixed.proofs.Ranges.{in-lo, in-hi}
-use Rattle.field.specs.Field.{fineNext, followed}
-use Rattle.field.specs.Promised.{Following, There}
-use Rattle.field.proofs.Arriving.{fine-between, rests-there, stays-there, Within, within→, closer}
+use Rattle.field.specs.Field.{fineNext, fluxOf, followed}
+use Rattle.field.specs.Promised.{Following, There, heldFor}
+use Rattle.field.proofs.Arriving.{fine-between, rests-there, stays-there, held-on, arrives}
+use Rattle.field.proofs.FromRest.{ends-at-2457}
 use Rattle.settings.specs.Ranges as range
 use Rattle.drive_record.specs.declared.Drive.{Drive}
 use Rattle.drive_record.proofs.Ranges.{Sound, not-broken}
 use Rattle.stages.specs.Step.{withShaft, withCommand, commanded, rules1And2, fieldAfter, withField, outcome, rules6To9, rules3To9, advanced}
-use Rattle.drive.specs.Calls.{withTrip, refused, stepped, withTarget}
+use Rattle.drive.specs.Calls.{fresh, withTrip, refused, stepped, withTarget}
+use Rattle.drive.proofs.Kept.{fresh-sound}
 use Rattle.rows.specs.Rows.{rowStepped, isAccepted, one, noRows, afterRow, ranOf, rowsIn}
-use Rattle.rows.proofs.Runs.{rows-sound}
 use Rattle.promises.specs.Histories.{Call, stepping, aiming, clearing, running, afterCall, afterCalls, rowAt, stepsIn, stepsOf, clears, NoClear}
 use Rattle.promises.specs.Words.{seen, next}
 use Rattle.promises.specs.Demand3.{EachStepAndRow}
-use Rattle.promises.specs.Flux.{FluxFollows, Sees, HeldAt, FluxArrives}
+use Rattle.promises.specs.Flux.{FluxFollows, RowSees, Sees, HeldAt, FluxArrives, FluxEndsAt2457}
 use Rattle.promises.proofs.Demand1.{passed, by-outcome, target-climbs, run-climbs}
 use Rattle.promises.proofs.Demand2.{step-by-the-rules}
 use Rattle.promises.proofs.Demand3.{step-and-row}
@@ -52,7 +52,8 @@ step-follows d ia ib count ok =
     let fine = d .field .fine in
     let i = seen d ia ib .d in
     let f = following d (not-broken d .0 (passed d ia ib count ok .0)) in
-    let e : next d ia ib count .field .fine ≡ fineNext kr fine i = ap (λ s. s .drive .field .fine) (step-by-the-rules d ia ib count ok) ∙ fine-advanced d ia ib count in
+    let rules = step-by-the-rules d ia ib count ok in
+    let e : next d ia ib count .field .fine ≡ fineNext kr fine i = ap (λ s. s .drive .field .fine) rules ∙ fine-advanced d ia ib count in
     record {
       between = subst (λ (z : ℤ). Between fine z (pos 4096 *ℤ i)) (sym e) (fine-between kr fine i f);
       rests = λ r. rests-there kr fine i f (sym e ∙ r);
@@ -62,69 +63,76 @@ step-follows d ia ib count ok =
 pub flux-follows : EachStepAndRow FluxFollows
 flux-follows = step-and-row FluxFollows step-follows
 
--- ════ how far calls bring the flux towards a current c that is held
--- from drive d to drive e, by so many accepted steps: what they take off the gap
-record Nearer (c : ℤ) (d e : Drive) (steps : ℕ) : Type 0 where
-  gap : (b : ℕ) → Within (natAbs (d .settings .kr) * steps + b) (d .field .fine) c → Within b (e .field .fine) c
+-- ════ from drive d to drive e, by so many accepted steps that see the current c
+record Held (c : ℤ) (d e : Drive) (steps : ℕ) : Type 0 where
+  fine : e .field .fine ≡ heldFor steps (d .settings .kr) (d .field .fine) c
   settings : e .settings ≡ d .settings
 
 module _ {c : ℤ} where
-  left : {d e : Drive} → e .field .fine ≡ d .field .fine → e .settings ≡ d .settings → Nearer c d e 0
-  left {d} f s = record { gap = λ b h. subst (λ (z : ℤ). Within b z c) (sym f) (omega (arith, h)); settings = s }
+  left : {d e : Drive} → e .field .fine ≡ d .field .fine → e .settings ≡ d .settings → Held c d e 0
+  unfolding heldFor
+  left f s = record { fine = f; settings = s }
 
-  goes-on : {d e f : Drive} {i j : ℕ} → Nearer c d e i → Nearer c e f j → Nearer c d f (i + j)
-  goes-on {d} {e} {i = i} {j} p q = record {
-    gap = λ b h.
-        let k = natAbs (d .settings .kr) in
-        let same : natAbs (e .settings .kr) ≡ k = ap (λ s. natAbs (s .kr)) (p .settings) in
-        q .gap b (rw same (p .gap (k * j + b) (omega (arith, h, mul-add k i j))));
+  goes-on : {d e f : Drive} {i j : ℕ} → Held c d e i → Held c e f j → Held c d f (i + j)
+  goes-on {d} {i = i} {j} p q = record {
+    fine = q .fine ∙ ap₂ (λ (k x : ℤ). heldFor j k x c) (ap (λ s. s .kr) (p .settings)) (p .fine)
+        ∙ held-on i j (d .settings .kr) (d .field .fine) c;
     settings = q .settings ∙ p .settings;
   }
 
 -- ════ one step
-module _ (c : ℤ) (d : Drive) (ia ib count : ℤ) (h : Sound d) where
-  accepted-nearer : seen d ia ib .d ≡ c → Nearer c d (advanced d ia ib count .drive) 1
-  unfolding advanced rules3To9 rules6To9 outcome withField
-  accepted-nearer e = record {
-    gap = λ b w.
-        let kr = d .settings .kr in
-        subst (λ (z : ℤ). Within b z c) (sym (fine-advanced d ia ib count ∙ ap (fineNext kr (d .field .fine)) e))
-        (closer kr (d .field .fine) c b (following d h) (omega (arith, w)));
+module _ (c : ℤ) (d : Drive) (ia ib count : ℤ) where
+  accepted-held : seen d ia ib .d ≡ c → Held c d (advanced d ia ib count .drive) 1
+  unfolding advanced rules3To9 rules6To9 outcome withField heldFor
+  accepted-held e = record {
+    fine = fine-advanced d ia ib count ∙ ap (fineNext (d .settings .kr) (d .field .fine)) e;
     settings = turned-settings d count;
   }
 
-  step-nearer : (stepped d ia ib count .number ≡ pos 0 → seen d ia ib .d ≡ c)
-      → Nearer c d (stepped d ia ib count .drive) (one (isAccepted (stepped d ia ib count)))
+  step-held : (stepped d ia ib count .number ≡ pos 0 → seen d ia ib .d ≡ c)
+      → Held c d (stepped d ia ib count .drive) (one (isAccepted (stepped d ia ib count)))
   unfolding refused withTrip isAccepted advanced rules3To9 rules6To9 outcome
-  step-nearer s =
-      by-outcome d ia ib count (λ s. Nearer c d (s .drive) (one (isAccepted s)))
-      (λ b. left refl refl) (λ n o t. rw o (left refl refl)) (λ n o. rw o (left refl refl)) (λ ok. accepted-nearer (s ok))
+  step-held s =
+      by-outcome d ia ib count (λ s. Held c d (s .drive) (one (isAccepted s)))
+      (λ b. left refl refl) (λ n o t. rw o (left refl refl)) (λ n o. rw o (left refl refl)) (λ ok. accepted-held (s ok))
 
 -- ════ the rows of a run
-rows-nearer : (c : ℤ) (d : Drive) (samples out : List ℤ) (n : ℕ) → Sound d → n ≤ rowsIn samples → Sees c d (running samples out)
-    → Nearer c d (ranOf d samples n .drive) (ranOf d samples n .accepted)
-unfolding ranOf noRows afterRow rowAt rowStepped Sees
-rows-nearer c d samples out zero h l s = left refl refl
-rows-nearer c d samples out (suc n) h l s =
-    goes-on (rows-nearer c d samples out n h (omega (arith, l)) s)
-    (step-nearer c (ranOf d samples n .drive) _ _ _ (rows-sound d samples n h) (s n (omega (arith, l))))
+rows-held : (c : ℤ) (d : Drive) (samples : List ℤ) (n : ℕ) → n ≤ rowsIn samples → ((i : ℕ) → i < rowsIn samples → RowSees c d samples i)
+    → Held c d (ranOf d samples n .drive) (ranOf d samples n .accepted)
+unfolding ranOf noRows afterRow rowAt rowStepped
+rows-held c d samples zero l s = left refl refl
+rows-held c d samples (suc n) l s =
+    goes-on (rows-held c d samples n (omega (arith, l)) s) (step-held c (ranOf d samples n .drive) _ _ _ (s n (omega (arith, l))))
 
 -- ════ any calls but an accepted clear
-call-nearer : (c : ℤ) (d : Drive) (x : Call) → Sound d → clears d x ≡ false → Sees c d x → Nearer c d (afterCall d x) (stepsIn d x)
+call-held : (c : ℤ) (d : Drive) (x : Call) → Sound d → clears d x ≡ false → Sees c d x → Held c d (afterCall d x) (stepsIn d x)
 unfolding afterCall stepsIn withTarget noRows Sees
-call-nearer c d (stepping ia ib count) h n s = step-nearer c d ia ib count h s
-call-nearer c d (aiming wanted) h n s =
-    holds (target-climbs d wanted) (λ a. Nearer c d (a .drive) 0) (λ b. left refl refl, λ b. (λ t. left refl refl, λ t. (λ w. left refl refl, λ w. left refl refl)))
-call-nearer c d clearing h n s = subst (λ e. Nearer c d e 0) (sym (uncleared d h n)) (left refl refl)
-call-nearer c d (running samples out) h n s =
-    holds (run-climbs d samples out) (λ r. Nearer c d (r .0 .drive) (r .0 .accepted))
-    (λ b. left refl refl, λ b. (λ f. left refl refl, λ f. rows-nearer c d samples out (rowsIn samples) h (omega arith) s))
+call-held c d (stepping ia ib count) h n s = step-held c d ia ib count s
+call-held c d (aiming wanted) h n s =
+    holds (target-climbs d wanted) (λ a. Held c d (a .drive) 0)
+    (λ b. left refl refl, λ b. (λ t. left refl refl, λ t. (λ w. left refl refl, λ w. left refl refl)))
+call-held c d clearing h n s = subst (λ e. Held c d e 0) (sym (uncleared d h n)) (left refl refl)
+call-held c d (running samples out) h n s =
+    holds (run-climbs d samples out) (λ r. Held c d (r .0 .drive) (r .0 .accepted))
+    (λ b. left refl refl, λ b. (λ f. left refl refl, λ f. rows-held c d samples (rowsIn samples) (omega arith) (s f)))
 
-calls-nearer : (c : ℤ) (d : Drive) (cs : List Call) → Sound d → NoClear d cs → HeldAt c d cs → Nearer c d (afterCalls d cs) (stepsOf d cs)
+calls-held : (c : ℤ) (d : Drive) (cs : List Call) → Sound d → NoClear d cs → HeldAt c d cs → Held c d (afterCalls d cs) (stepsOf d cs)
 unfolding afterCalls NoClear HeldAt stepsOf
-calls-nearer c d [] h n s = left refl refl
-calls-nearer c d (x ∷ cs) h n s =
-    goes-on (call-nearer c d x h (n .0) (s .0)) (calls-nearer c (afterCall d x) cs (after-sound d x h) (n .1) (s .1))
+calls-held c d [] h n s = left refl refl
+calls-held c d (x ∷ cs) h n s =
+    goes-on (call-held c d x h (n .0) (s .0)) (calls-held c (afterCall d x) cs (after-sound d x h) (n .1) (s .1))
 
 pub flux-arrives : FluxArrives
-flux-arrives c d cs b n s h = within→ (afterCalls d cs .field .fine) c (calls-nearer c d cs (not-broken d .0 b) n s .gap 0 (omega (arith, h)))
+flux-arrives c d cs b n s =
+    let h = not-broken d .0 b in
+    let e = calls-held c d cs h n s .fine in
+    record {
+      fine = e;
+      arrives = λ l. subst (There c) (sym e) (arrives (d .settings .kr) (d .field .fine) c (stepsOf d cs) (following d h) l);
+    }
+
+pub flux-ends-at-2457 : FluxEndsAt2457
+unfolding fresh
+flux-ends-at-2457 s cs a k n held l =
+    let e = flux-arrives (pos 2458) (fresh s) cs (not-broken (fresh s) .1 (fresh-sound s a)) n held .fine in
+    ap fluxOf (e ∙ ap (λ (k : ℤ). heldFor (stepsOf (fresh s) cs) k (pos 0) (pos 2458)) k) ∙ ends-at-2457 .flux (stepsOf (fresh s) cs) l

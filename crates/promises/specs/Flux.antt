@@ -1,17 +1,20 @@
 -- The flux, of every accepted step and row and over any calls: it goes to the current on the d axis where that is held, and no rounding makes it rest further
 -- away than d − 1. The same of numbers alone is field/specs/Promised.
 use mathlib.Core.Path.{_≡_}
-use mathlib.Core.Bool.{false}
+use mathlib.Core.Bool.{true, false}
 use mathlib.Core.List.{List, [], _∷_}
 use Prim.Native.Nat.{ℕ, _+_, _*_, _≤_, _<_}
 use lib.IntN.{ℤ, pos, natAbs, _-ℤ_, _*ℤ_}
-use lib.ListN.{getD}
+use lib.ListN.{length, getD}
 use Rattle.fixed.specs.Fixed.{Between}
-use Rattle.field.specs.Promised.{There}
+use Rattle.field.specs.Field.{fluxOf}
+use Rattle.field.specs.Promised.{There, heldFor}
+use Rattle.settings.specs.declared.Settings.{Settings}
+use Rattle.settings.specs.Settings.{accepted}
 use Rattle.drive_record.specs.declared.Drive.{Drive}
 use Rattle.drive_record.specs.Record.{broken}
-use Rattle.drive.specs.Calls.{stepped}
-use Rattle.rows.specs.Rows.{ranOf, rowsIn}
+use Rattle.drive.specs.Calls.{fresh, stepped}
+use Rattle.rows.specs.Rows.{ranOf, rowsIn, rowsFit}
 use Rattle.promises.specs.Histories.{Call, stepping, aiming, clearing, running, afterCall, afterCalls, rowAt, stepsOf, NoClear}
 use Rattle.promises.specs.Words.{seen, next}
 
@@ -22,18 +25,30 @@ pub record FluxFollows (d : Drive) (ia ib count : ℤ) : Type 0 where
   pub stays : There (seen d ia ib .d) (d .field .fine) → There (seen d ia ib .d) (next d ia ib count .field .fine)
 
 -- ════ the current is held at c: every accepted step sees it, also every accepted row of a run
+abbrev pub RowSees : ℤ → Drive → List ℤ → ℕ → Type 0
+RowSees c d samples i = rowAt d samples i .number ≡ pos 0
+    → seen (ranOf d samples i .drive) (getD samples (3 * i) (pos 0)) (getD samples (3 * i + 1) (pos 0)) .d ≡ c
+
 unfoldable pub Sees : ℤ → Drive → Call → Type 0
 Sees c d (stepping ia ib count) = stepped d ia ib count .number ≡ pos 0 → seen d ia ib .d ≡ c
 Sees c d (aiming wanted) = Unit
 Sees c d clearing = Unit
-Sees c d (running samples out) = (i : ℕ) → i < rowsIn samples → rowAt d samples i .number ≡ pos 0
-    → seen (ranOf d samples i .drive) (getD samples (3 * i) (pos 0)) (getD samples (3 * i + 1) (pos 0)) .d ≡ c
+Sees c d (running samples out) = rowsFit (length samples) (length out) ≡ true → (i : ℕ) → i < rowsIn samples → RowSees c d samples i
 
 unfoldable pub HeldAt : ℤ → Drive → List Call → Type 0
 HeldAt c d [] = Unit
 HeldAt c d (x ∷ cs) = Sees c d x × HeldAt c (afterCall d x) cs
 
--- from any record that is not broken, through any calls without an accepted clear: the flux is c or c − 1 once Kr times the accepted steps is |4096·c − fine|
+-- from any record that is not broken, through any calls without an accepted clear: the accepted steps are steps of the flux model with that current, so
+-- that the flux is c or c − 1 once Kr times their number is |4096·c − fine|
+pub record Goes (c : ℤ) (d : Drive) (cs : List Call) : Type 0 where
+  pub fine : afterCalls d cs .field .fine ≡ heldFor (stepsOf d cs) (d .settings .kr) (d .field .fine) c
+  pub arrives : natAbs (pos 4096 *ℤ c -ℤ d .field .fine) ≤ natAbs (d .settings .kr) * stepsOf d cs → There c (afterCalls d cs .field .fine)
+
 abbrev pub FluxArrives : Type 0
-FluxArrives = (c : ℤ) (d : Drive) (cs : List Call) → broken d ≡ false → NoClear d cs → HeldAt c d cs
-    → natAbs (pos 4096 *ℤ c -ℤ d .field .fine) ≤ natAbs (d .settings .kr) * stepsOf d cs → There c (afterCalls d cs .field .fine)
+FluxArrives = (c : ℤ) (d : Drive) (cs : List Call) → broken d ≡ false → NoClear d cs → HeldAt c d cs → Goes c d cs
+
+-- ════ with Kr 75, from a fresh drive on and with 2458 held: the flux is 2457 from the 423rd accepted step on
+abbrev pub FluxEndsAt2457 : Type 0
+FluxEndsAt2457 = (s : Settings) (cs : List Call) → accepted s ≡ true → s .kr ≡ pos 75 → NoClear (fresh s) cs → HeldAt (pos 2458) (fresh s) cs
+    → 423 ≤ stepsOf (fresh s) cs → fluxOf (afterCalls (fresh s) cs .field .fine) ≡ pos 2457
