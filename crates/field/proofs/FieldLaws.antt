@@ -1,19 +1,21 @@
 -- What the flux model keeps: the fine flux lies between where it was and 4096·d, so that it stays within what bounds both; the slip is within
 -- ±16383; the angle is within 0..65535.
 -- Assumes nothing.
-use mathlib.Core.Path.{_≡_}
+use mathlib.Core.Path.{_≡_, refl, _∙_}
+use mathlib.Core.Logic.{⊎-elim}
 use Prim.Native.Nat.{_≤_}
 use native.Mathlib.Omega.{arith}
-use lib.IntN.{ℤ, pos, negℤ, natAbs, _+ℤ_, _-ℤ_, _*ℤ_}
+use lib.IntN.{ℤ, pos, negℤ, natAbs, _+ℤ_, _-ℤ_, _*ℤ_, *ℤ-zero}
 use lib.Signed.{_≤ℤ_, _<ℤ_, ltZ, ltZ-yes}
-use Rattle.fixed.specs.Fixed.{down, held, Between}
+use Rattle.fixed.specs.Fixed.{down, modulo, held, Between}
 use Rattle.fixed.proofs.Parts.{order, diffs, is-diff, cond-ind}
-use Rattle.fixed.proofs.Ring.{*-nonneg, gap-up, gap-down}
+use Rattle.fixed.proofs.Ring.{<-or-≤, *-nonneg, gap-up, gap-down}
 use Rattle.fixed.proofs.Between.{between-size, moved-between}
 use Rattle.fixed.proofs.Size.{abs-*≤}
-use Rattle.fixed.proofs.DownLaws.{modulo-lo, modulo-hi}
+use Rattle.fixed.proofs.DownLaws.{down-zero, modulo-lo, modulo-hi}
 use Rattle.fixed.proofs.HeldLaws.{held-size, if-less, if-not-less}
-use Rattle.field.specs.Field.{fineNext, slip, angleNext, fineEnd, fluxEnd, slipEnd}
+use Rattle.field.specs.declared.Field.{Field}
+use Rattle.field.specs.Field.{fineNext, fluxOf, slip, angleNext, followed, fineEnd, fluxEnd, slipEnd}
 
 -- 0 ≤ k ≤ 4096: k·g lies between 0 and 4096·g, so less than 4096 past either
 below-gap : (k g : ℤ) → pos 0 ≤ℤ ((pos 4096 -ℤ k) *ℤ g) → (k *ℤ g) <ℤ (pos 4096 *ℤ (g +ℤ pos 1))
@@ -50,6 +52,19 @@ slip-some kt flux q h = if-not-less flux (pos 41) _ _ h
 pub slip-size : (kt flux q : ℤ) → natAbs (slip kt flux q) ≤ slipEnd
 unfolding slip
 slip-size kt flux q = cond-ind (ltZ flux (pos 41)) _ _ (λ z. natAbs z ≤ slipEnd) (λ t. omega arith) (λ t. held-size (down (kt *ℤ q) flux) slipEnd)
+
+-- without a q current there is none
+pub no-slip : (kt flux : ℤ) → slip kt flux (pos 0) ≡ pos 0
+unfolding held
+no-slip kt flux = ⊎-elim (λ h. slip-none kt flux (pos 0) h) (λ h. slip-some kt flux (pos 0) h ∙ quotient h) (<-or-≤ flux (pos 41))
+  where
+    quotient : pos 41 ≤ℤ flux → held (down (kt *ℤ pos 0) flux) (negℤ (pos slipEnd)) (pos slipEnd) ≡ pos 0
+    quotient h = rw (*ℤ-zero kt, down-zero flux (omega (arith, order, h))) refl
+
+-- so at angle 0, without it and without speed, the angle stays 0
+pub stands : (kr kt kth : ℤ) (f : Field) (d : ℤ) → f .angle ≡ pos 0 → followed kr kt kth f d (pos 0) (pos 0) .angle ≡ pos 0
+unfolding followed angleNext modulo down
+stands kr kt kth f d e = rw (e, no-slip kt (fluxOf (fineNext kr (f .fine) d)), *ℤ-zero kth) refl
 
 pub angle-lo : (kth angle w : ℤ) → pos 0 ≤ℤ angleNext kth angle w
 unfolding angleNext

@@ -9,21 +9,19 @@ use lib.IntN.{ℤ, pos, _*ℤ_}
 use Rattle.fixed.specs.Fixed.{Between}
 use Rattle.fixed.proofs.LadderLaws.{holds}
 use Rattle.fixed.proofs.Ranges.{in-lo, in-hi}
-use Rattle.field.specs.Field.{fineNext, fluxOf, followed}
+use Rattle.field.specs.Field.{fineNext, followed}
 use Rattle.field.specs.Promised.{Following, There, heldFor}
 use Rattle.field.proofs.Arriving.{fine-between, rests-there, stays-there, held-on, arrives}
-use Rattle.field.proofs.FromRest.{ends-at-2457}
 use Rattle.settings.specs.Ranges as range
 use Rattle.drive_record.specs.declared.Drive.{Drive}
 use Rattle.drive_record.proofs.Ranges.{Sound, not-broken}
 use Rattle.stages.specs.Step.{withShaft, withCommand, commanded, rules1And2, fieldAfter, withField, outcome, rules6To9, rules3To9, advanced}
-use Rattle.drive.specs.Calls.{fresh, withTrip, refused, stepped, withTarget}
-use Rattle.drive.proofs.Kept.{fresh-sound}
+use Rattle.drive.specs.Calls.{withTrip, refused, stepped, withTarget}
 use Rattle.rows.specs.Rows.{rowStepped, isAccepted, one, noRows, afterRow, ranOf, rowsIn}
 use Rattle.promises.specs.Histories.{Call, stepping, aiming, clearing, running, afterCall, afterCalls, rowAt, stepsIn, stepsOf, clears, NoClear}
 use Rattle.promises.specs.Words.{seen, next}
 use Rattle.promises.specs.Demand3.{EachStepAndRow}
-use Rattle.promises.specs.Flux.{FluxFollows, RowSees, Sees, HeldAt, FluxArrives, FluxEndsAt2457}
+use Rattle.promises.specs.Flux.{FluxFollows, RowSees, Sees, HeldAt, FluxArrives}
 use Rattle.promises.proofs.Demand1.{passed, by-outcome, target-climbs, run-climbs}
 use Rattle.promises.proofs.Demand2.{step-by-the-rules}
 use Rattle.promises.proofs.Demand3.{step-and-row}
@@ -35,7 +33,7 @@ following : (d : Drive) → Sound d → Following (d .settings .kr)
 following d h = record { lo = in-lo range.kr (d .settings .kr) (h .settings .kr); hi = in-hi range.kr (d .settings .kr) (h .settings .kr) }
 
 -- rules 1 and 2 leave the field
-turned-field : (d : Drive) (count : ℤ) → rules1And2 d count .field ≡ d .field
+pub turned-field : (d : Drive) (count : ℤ) → rules1And2 d count .field ≡ d .field
 unfolding commanded withCommand withShaft
 turned-field d count = turned-keeps (λ d. d .field) d count refl refl
 
@@ -130,9 +128,3 @@ flux-arrives c d cs b n s =
       fine = e;
       arrives = λ l. subst (There c) (sym e) (arrives (d .settings .kr) (d .field .fine) c (stepsOf d cs) (following d h) l);
     }
-
-pub flux-ends-at-2457 : FluxEndsAt2457
-unfolding fresh
-flux-ends-at-2457 s cs a k n held l =
-    let e = flux-arrives (pos 2458) (fresh s) cs (not-broken (fresh s) .1 (fresh-sound s a)) n held .fine in
-    ap fluxOf (e ∙ ap (λ (k : ℤ). heldFor (stepsOf (fresh s) cs) k (pos 0) (pos 2458)) k) ∙ ends-at-2457 .flux (stepsOf (fresh s) cs) l

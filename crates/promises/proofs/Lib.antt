@@ -6,6 +6,7 @@ pub mod Onward
 pub mod Ramp
 pub mod Window
 pub mod Flux
+pub mod Standstill
 pub mod Starred
 pub mod Instances
 pub mod Settled

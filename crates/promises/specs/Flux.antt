@@ -3,14 +3,13 @@
 use mathlib.Core.Path.{_≡_}
 use mathlib.Core.Bool.{true, false}
 use mathlib.Core.List.{List, [], _∷_}
-use Prim.Native.Nat.{ℕ, _+_, _*_, _≤_, _<_}
-use lib.IntN.{ℤ, pos, natAbs, _-ℤ_, _*ℤ_}
+use Prim.Native.Nat.{ℕ, zero, suc, _+_, _*_, _≤_, _<_}
+use lib.IntN.{ℤ, pos, negsuc, natAbs, _-ℤ_, _*ℤ_}
 use lib.ListN.{length, getD}
 use Rattle.fixed.specs.Fixed.{Between}
 use Rattle.field.specs.Field.{fluxOf}
 use Rattle.field.specs.Promised.{There, heldFor}
-use Rattle.settings.specs.declared.Settings.{Settings}
-use Rattle.settings.specs.Settings.{accepted}
+use Rattle.settings.specs.BenchSettings.{benchSettings}
 use Rattle.drive_record.specs.declared.Drive.{Drive}
 use Rattle.drive_record.specs.Record.{broken}
 use Rattle.drive.specs.Calls.{fresh, stepped}
@@ -48,7 +47,10 @@ pub record Goes (c : ℤ) (d : Drive) (cs : List Call) : Type 0 where
 abbrev pub FluxArrives : Type 0
 FluxArrives = (c : ℤ) (d : Drive) (cs : List Call) → broken d ≡ false → NoClear d cs → HeldAt c d cs → Goes c d cs
 
--- ════ with Kr 75, from a fresh drive on and with 2458 held: the flux is 2457 from the 423rd accepted step on
-abbrev pub FluxEndsAt2457 : Type 0
-FluxEndsAt2457 = (s : Settings) (cs : List Call) → accepted s ≡ true → s .kr ≡ pos 75 → NoClear (fresh s) cs → HeldAt (pos 2458) (fresh s) cs
-    → 423 ≤ stepsOf (fresh s) cs → fluxOf (afterCalls (fresh s) cs .field .fine) ≡ pos 2457
+-- ════ the bench drive, from fresh: with ia 2458 and ib −1229 sampled and the count at 0, step after step, the flux is 2457 from step 423 on, for ever
+unfoldable pub magnetised : ℕ → List Call
+magnetised zero = []
+magnetised (suc n) = stepping (pos 2458) (negsuc 1228) (pos 0) ∷ magnetised n
+
+abbrev pub BenchEndsAt2457 : Type 0
+BenchEndsAt2457 = (n : ℕ) → 423 ≤ n → fluxOf (afterCalls (fresh benchSettings) (magnetised n) .field .fine) ≡ pos 2457

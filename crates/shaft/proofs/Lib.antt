@@ -6,3 +6,4 @@ pub mod Weakening
 pub mod Cases
 pub mod ShaftRanges
 pub mod AtBench
+pub mod Standing
