@@ -62,7 +62,7 @@
  *   gains     4096 is 1.0
  *   current   4096 is the base current, which the scaling of the samples chooses
  *   flux      as a current: the d current that keeps that flux up
- *   fine      4096 is 1 of the flux
+ *   fine      4096 of it are one count of the flux
  *   speed     4096 is the base speed: without slip the rotor flux then turns fb times a second
  *   voltage   4096 is the bus voltage divided by the square root of 3
  *   angle     65536 is one turn of the rotor flux
