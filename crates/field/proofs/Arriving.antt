@@ -14,10 +14,10 @@ use Rattle.fixed.proofs.Ring.{≤-trans, <-≤, <-or-≤, *-nonneg, *-neg-pos, 
 use Rattle.fixed.proofs.Size.{abs←, abs-lo, abs-hi}
 use Rattle.fixed.proofs.DownLaws.{down-low, down-high, down-unique, le-down, down-lt}
 use Rattle.field.specs.Field.{fineNext, fluxOf}
-use Rattle.field.specs.Promised.{Following, There, FineBetween, NeverFalls, RestsThere, StaysThere, heldFor, Arrives}
+use Rattle.field.specs.Promised.{KrIn, There, FineBetween, NeverFalls, RestsThere, StaysThere, heldFor, Arrives}
 use Rattle.field.proofs.FieldLaws as law
 
-up : (kr : ℤ) → Following kr → pos 0 ≤ℤ kr
+up : (kr : ℤ) → KrIn kr → pos 0 ≤ℤ kr
 up kr f = let h = f .lo in omega (arith, order)
 
 pub fine-between : FineBetween
@@ -94,13 +94,13 @@ module _ (k g : ℤ) (k1 : pos 1 ≤ℤ k) (lo : pos 0 ≤ℤ (k *ℤ g)) (hi : 
 
 pub rests-there : RestsThere
 unfolding fineNext
-rests-there kr fine d f e =
+rests-there kr fine d k1 e =
     let g = gap fine d in
     let t = kr *ℤ g in
     let c = down t (pos 4096) in
     let lo = from fine c t e (down-low t (pos 4096) (ltZ-yes tt)) in
     let hi = to fine c t e (down-high t (pos 4096) (ltZ-yes tt)) in
-    there← fine d (≤-trans (leZ-yes tt) (gap-lo kr g (f .lo) lo hi)) (gap-hi kr g (f .lo) lo hi)
+    there← fine d (≤-trans (leZ-yes tt) (gap-lo kr g k1 lo hi)) (gap-hi kr g k1 lo hi)
   where
     from : (x c t : ℤ) → x +ℤ c ≡ x → (pos 4096 *ℤ c) ≤ℤ t → pos 0 ≤ℤ t
     from x c t = rw (is-diff x, is-diff c, is-diff t) (simp diffs (omega arith))
@@ -142,7 +142,7 @@ module _ (k b : ℕ) (o fine c : ℤ) (h : natAbs (o -ℤ fine) ≤ k + b + 4095
       (<-or-≤ (negsuc 4095) (o -ℤ fine)))
       (omega (arith, order, w, q))
 
-module _ (k b : ℕ) (fine d : ℤ) (f : Following (pos k)) (h : Within (k + b) fine d) where
+module _ (k b : ℕ) (fine d : ℤ) (f : KrIn (pos k)) (h : Within (k + b) fine d) where
   abbrev g : ℤ
   g = gap fine d
 
@@ -168,12 +168,12 @@ module _ (k b : ℕ) (fine d : ℤ) (f : Following (pos k)) (h : Within (k + b) 
       let w : Between fine (fine +ℤ c) o = fine-between (pos k) fine d f in
       ⊎-elim (λ a. closer-up k b o fine c h (w .rising (<-≤ a)) k-up) (λ a. closer-down k b o fine c h (w .falling a) k-down) (<-or-≤ fine o)
 
-closer : (kr fine d : ℤ) (b : ℕ) → Following kr → Within (natAbs kr + b) fine d → Within b (fineNext kr fine d) d
+closer : (kr fine d : ℤ) (b : ℕ) → KrIn kr → Within (natAbs kr + b) fine d → Within b (fineNext kr fine d) d
 closer (pos k) fine d b f h = closer-by k b fine d f h
 closer (negsuc k) fine d b f h = absurd (f .lo .le)
 
 -- ════ so many steps
-held-closer : (n b : ℕ) (kr fine d : ℤ) → Following kr → Within (natAbs kr * n + b) fine d → Within b (heldFor n kr fine d) d
+held-closer : (n b : ℕ) (kr fine d : ℤ) → KrIn kr → Within (natAbs kr * n + b) fine d → Within b (heldFor n kr fine d) d
 unfolding heldFor
 held-closer zero b kr fine d f h = omega (arith, h)
 held-closer (suc n) b kr fine d f h =

@@ -10,7 +10,7 @@ use Rattle.fixed.specs.Fixed.{Between}
 use Rattle.fixed.proofs.LadderLaws.{holds}
 use Rattle.fixed.proofs.Ranges.{in-lo, in-hi}
 use Rattle.field.specs.Field.{fineNext, followed}
-use Rattle.field.specs.Promised.{Following, There, heldFor}
+use Rattle.field.specs.Promised.{KrIn, There, heldFor}
 use Rattle.field.proofs.Arriving.{fine-between, rests-there, stays-there, held-on, arrives}
 use Rattle.settings.specs.Ranges as range
 use Rattle.drive_record.specs.declared.Drive.{Drive}
@@ -29,7 +29,7 @@ use Rattle.promises.proofs.Keeping.{after-sound, turned-keeps, turned-s
 use Rattle.promises.proofs.Window.{uncleared}
 
 -- ════ one step
-following : (d : Drive) → Sound d → Following (d .settings .kr)
+following : (d : Drive) → Sound d → KrIn (d .settings .kr)
 following d h = record { lo = in-lo range.kr (d .settings .kr) (h .settings .kr); hi = in-hi range.kr (d .settings .kr) (h .settings .kr) }
 
 -- rules 1 and 2 leave the field
@@ -54,7 +54,7 @@ step-follows d ia ib count ok =
     let e : next d ia ib count .field .fine ≡ fineNext kr fine i = ap (λ s. s .drive .field .fine) rules ∙ fine-advanced d ia ib count in
     record {
       between = subst (λ (z : ℤ). Between fine z (pos 4096 *ℤ i)) (sym e) (fine-between kr fine i f);
-      rests = λ r. rests-there kr fine i f (sym e ∙ r);
+      rests = λ r. rests-there kr fine i (f .lo) (sym e ∙ r);
       stays = λ t. subst (There i) (sym e) (stays-there kr fine i f t);
     }
 

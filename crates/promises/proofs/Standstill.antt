@@ -102,8 +102,10 @@ bench-ready = record { is-sound = bench-sound; untripped = refl; angle = refl; s
 
 pub bench-ends-at-2457 : BenchEndsAt2457
 unfolding fresh
-bench-ends-at-2457 n l =
+bench-ends-at-2457 n =
     let d = fresh benchSettings in
-    let e = flux-arrives (pos 2458) d (magnetised n) bench-intact (none-clears n d) (held n d bench-ready) .fine in
-    ap fluxOf (e ∙ ap₂ (λ (m : ℕ) (k : ℤ). heldFor m k (pos 0) (pos 2458)) (counted n d bench-ready) (ap (λ s. s .kr) value.bench-is))
-    ∙ ends-at-2457 .flux n l
+    let held-is = flux-arrives (pos 2458) d (magnetised n) bench-intact (none-clears n d) (held n d bench-ready) .fine in
+    let by-n = ap₂ (λ (m : ℕ) (k : ℤ). heldFor m k (pos 0) (pos 2458)) (counted n d bench-ready) (ap (λ s. s .kr) value.bench-is) in
+    let e = ap fluxOf (held-is ∙ by-n) in
+    let ends = ends-at-2457 .flux n in
+    (λ f. ends .0 (sym e ∙ f), λ l. e ∙ ends .1 l)

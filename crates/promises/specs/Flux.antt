@@ -3,6 +3,7 @@
 use mathlib.Core.Path.{_≡_}
 use mathlib.Core.Bool.{true, false}
 use mathlib.Core.List.{List, [], _∷_}
+use mathlib.Core.Logic.{_↔_}
 use Prim.Native.Nat.{ℕ, zero, suc, _+_, _*_, _≤_, _<_}
 use lib.IntN.{ℤ, pos, negsuc, natAbs, _-ℤ_, _*ℤ_}
 use lib.ListN.{length, getD}
@@ -47,10 +48,10 @@ pub record Goes (c : ℤ) (d : Drive) (cs : List Call) : Type 0 where
 abbrev pub FluxArrives : Type 0
 FluxArrives = (c : ℤ) (d : Drive) (cs : List Call) → broken d ≡ false → NoClear d cs → HeldAt c d cs → Goes c d cs
 
--- ════ the bench drive, from fresh: with ia 2458 and ib −1229 sampled and the count at 0, step after step, the flux is 2457 from step 423 on, for ever
+-- ════ the bench drive, from fresh: with ia 2458 and ib −1229 sampled and the count at 0, step after step, the flux is 2457 exactly from step 423 on
 unfoldable pub magnetised : ℕ → List Call
 magnetised zero = []
 magnetised (suc n) = stepping (pos 2458) (negsuc 1228) (pos 0) ∷ magnetised n
 
 abbrev pub BenchEndsAt2457 : Type 0
-BenchEndsAt2457 = (n : ℕ) → 423 ≤ n → fluxOf (afterCalls (fresh benchSettings) (magnetised n) .field .fine) ≡ pos 2457
+BenchEndsAt2457 = (n : ℕ) → (fluxOf (afterCalls (fresh benchSettings) (magnetised n) .field .fine) ≡ pos 2457) ↔ (423 ≤ n)
