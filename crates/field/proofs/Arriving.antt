@@ -47,23 +47,17 @@ there← fine d l h =
 
 there→ : (fine d : ℤ) → There d fine → (negsuc 4094 ≤ℤ gap fine d) × (gap fine d ≤ℤ pos 4096)
 unfolding fluxOf
-there→ fine d =
+there→ fine d t =
     let q = down fine (pos 4096) in
-    let l = down-low fine (pos 4096) (ltZ-yes tt) in
-    let h = down-high fine (pos 4096) (ltZ-yes tt) in
-    ⊎-elim (λ e. (at-d-lo fine q d h e, at-d-hi fine q d l e)) (λ e. (below-lo fine q d h e, below-hi fine q d l e))
+    let b : ((d -ℤ pos 1) ≤ℤ q) × (q ≤ℤ d) =
+    ⊎-elim (λ e. omega (arith, order, e, parts-- d (pos 1))) (λ e. omega (arith, order, e, parts-- d (pos 1))) t in
+    (lo fine q d (down-high fine (pos 4096) (ltZ-yes tt)) (b .1), hi fine q d (down-low fine (pos 4096) (ltZ-yes tt)) (b .0))
   where
-    at-d-lo : (fine q d : ℤ) → fine <ℤ (pos 4096 *ℤ q +ℤ pos 4096) → q ≡ d → negsuc 4094 ≤ℤ gap fine d
-    at-d-lo fine q d = rw (is-diff d, is-diff fine, is-diff q) (simp diffs (omega arith))
+    lo : (fine q d : ℤ) → fine <ℤ (pos 4096 *ℤ q +ℤ pos 4096) → q ≤ℤ d → negsuc 4094 ≤ℤ gap fine d
+    lo fine q d = rw (is-diff d, is-diff fine, is-diff q) (simp diffs (omega arith))
 
-    at-d-hi : (fine q d : ℤ) → (pos 4096 *ℤ q) ≤ℤ fine → q ≡ d → gap fine d ≤ℤ pos 4096
-    at-d-hi fine q d = rw (is-diff d, is-diff fine, is-diff q) (simp diffs (omega arith))
-
-    below-lo : (fine q d : ℤ) → fine <ℤ (pos 4096 *ℤ q +ℤ pos 4096) → q ≡ d -ℤ pos 1 → negsuc 4094 ≤ℤ gap fine d
-    below-lo fine q d = rw (is-diff d, is-diff fine, is-diff q) (simp diffs (omega arith))
-
-    below-hi : (fine q d : ℤ) → (pos 4096 *ℤ q) ≤ℤ fine → q ≡ d -ℤ pos 1 → gap fine d ≤ℤ pos 4096
-    below-hi fine q d = rw (is-diff d, is-diff fine, is-diff q) (simp diffs (omega arith))
+    hi : (fine q d : ℤ) → (pos 4096 *ℤ q) ≤ℤ fine → (d -ℤ pos 1) ≤ℤ q → gap fine d ≤ℤ pos 4096
+    hi fine q d = rw (is-diff d, is-diff fine, is-diff q) (simp diffs (omega arith))
 
 -- a step leaves a gap between the old one and 0
 pub stays-there : StaysThere

@@ -15,9 +15,7 @@ use Rattle.field.specs.Field.{fineNext, fluxOf}
 use Rattle.field.specs.Promised.{KrIn, heldFor, fromRest, EndsAt2457}
 use Rattle.field.proofs.Arriving.{fine-between, never-falls}
 
-bench : KrIn (pos 75)
-bench = record { lo = record { le = tt }; hi = record { le = tt } }
-
+-- ════ computed: where the flux becomes 2457, and where fine comes to rest
 at-422 : fromRest 422 ≡ pos 10063809
 unfolding heldFor fineNext down
 at-422 = refl
@@ -45,6 +43,10 @@ from-688 (suc k) =
     let e : suc (k + 688) ≡ suc k + 688 = omega arith in
     subst (λ (n : ℕ). fromRest n ≡ pos 10067914) e (ap (λ (z : ℤ). fineNext (pos 75) z (pos 2458)) (from-688 k) ∙ at-rest)
 
+-- ════ below 4096·d it never falls
+bench : KrIn (pos 75)
+bench = record { lo = record { le = tt }; hi = record { le = tt } }
+
 below-d : (n : ℕ) → fromRest n ≤ℤ (pos 4096 *ℤ pos 2458)
 unfolding heldFor
 below-d zero = record { le = tt }
@@ -68,6 +70,7 @@ flux-rises : (m n : ℕ) → m ≤ n → fluxOf (fromRest m) ≤ℤ fluxOf (from
 unfolding fluxOf
 flux-rises m n h = down-mono (fromRest m) (fromRest n) (pos 4096) (ltZ-yes tt) (rises-to m n h)
 
+-- ════ so each is what it ends at exactly from a step on
 rested : (n : ℕ) → 688 ≤ n → fromRest n ≡ pos 10067914
 rested n h = ap fromRest (later 688 n h) ∙ from-688 (n - 688)
 
