@@ -1,8 +1,8 @@
 /* Mirgalhet: a vector drive for three-phase induction motors, on a record that lies where you have it.
  *
  * The rules are docs/RULES.md: every range, every rounding, every number handed back. The functions are proved: what each does is said once,
- * as an equation for every record and every number, in crates/drive/specs, crates/interrupt/specs and crates/moments/specs. This header has
- * the same in words.
+ * as an equation for every record and every number, in crates/drive/specs, crates/field/specs, crates/interrupt/specs and
+ * crates/moments/specs. This header has the same in words.
  *
  * Link with libmirgalhet.a, which `bin/library DIR` puts beside this header, for x86-64. It allocates nothing and keeps nothing between
  * calls: all there is of a drive is its record, and the one of its last moments where you keep that. Two drives are two records.
