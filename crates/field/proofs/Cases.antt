@@ -1,4 +1,4 @@
--- The flux model where it falls, and the slip's edge.
+-- The flux model where it falls, where it goes far and below zero; and the slip's edge.
 -- Assumes nothing.
 use mathlib.Core.Path.{_≡_, refl}
 use lib.IntN.{pos, negsuc}

@@ -1,5 +1,5 @@
 -- What the flux model keeps: the fine flux lies between where it was and 4096·d, so that it stays within what bounds both; the slip is within
--- ±16383; the angle is within 0..65535.
+-- ±16383, and 0 without a q current; the angle is within 0..65535.
 -- Assumes nothing.
 use mathlib.Core.Path.{_≡_, refl, _∙_}
 use mathlib.Core.Logic.{⊎-elim}

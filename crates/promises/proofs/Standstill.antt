@@ -3,7 +3,7 @@
 -- Assumes nothing.
 use mathlib.Core.Path.{_≡_, refl, sym, _∙_, ap, ap₂, subst}
 use mathlib.Core.Bool.{false}
-use Prim.Native.Nat.{ℕ, zero, suc, _+_}
+use Prim.Native.Nat.{ℕ, zero, suc}
 use native.Mathlib.Omega.{arith}
 use lib.IntN.{ℤ, pos, negsuc}
 use Rattle.fixed.proofs.Choice.{choose}
@@ -21,7 +21,7 @@ use Rattle.stages.proofs.AtBench as value
 use Rattle.drive.specs.Calls.{fresh, stepped}
 use Rattle.drive.proofs.Kept.{stepped-sound}
 use Rattle.drive.proofs.AtBench.{bench-sound, bench-intact}
-use Rattle.rows.specs.Rows.{isAccepted, one}
+use Rattle.rows.specs.Rows.{isAccepted}
 use Rattle.promises.specs.Histories.{afterCall, stepsIn, stepsOf, clears, NoClear}
 use Rattle.promises.specs.Words.{seen}
 use Rattle.promises.specs.Flux.{Sees, HeldAt, magnetised, BenchEndsAt2457}

@@ -9,7 +9,7 @@ use Rattle.regulator.specs.declared.Gains.{Gains}
 use Rattle.regulator.specs.declared.Regulated.{Regulated}
 use Rattle.regulator.specs.Regulator.{regulated}
 use Rattle.frames.specs.Frames.{clarke}
-use Rattle.field.specs.Field.{fineNext, fluxOf, angleNext}
+use Rattle.field.specs.Field.{fluxOf, angleNext}
 use Rattle.field.specs.Promised.{heldFor}
 use Rattle.modulation.specs.declared.Pulses.{Pulses}
 use Rattle.modulation.specs.Modulation.{modulated}

@@ -1,6 +1,6 @@
 -- A shaft that stands at count 0 with nothing in the sum and no speed, whether a count was seen or not: a step with the count 0 leaves it so, a tick too.
 -- Assumes nothing.
-use mathlib.Core.Path.{_≡_, refl, _∙_}
+use mathlib.Core.Path.{_≡_, refl}
 use mathlib.Core.Bool.{Bool, true, false, cond}
 use lib.IntN.{ℤ, pos, *ℤ-comm, *ℤ-zero}
 use Rattle.fixed.specs.Fixed.{down, modulo, held}
