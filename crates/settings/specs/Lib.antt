@@ -1,4 +1,5 @@
 pub mod Ranges
 pub mod Settings
 pub mod Words
+pub mod Promised
 pub mod BenchSettings

@@ -1,8 +1,12 @@
--- The settings as words, in the order of the sheet, and back.
-use Prim.Native.Nat.{ℕ}
-use mathlib.Core.List.{List, [], _∷_}
+-- The settings as words, in the order of the sheet, and back; and each word's name, kind and range.
+use Prim.Native.Nat.{ℕ, _-_}
+use mathlib.Core.Bool.{Bool, true, false, _&&_}
+use mathlib.Core.List.{List, [], _∷_, _++_}
 use lib.IntN.{ℤ, pos}
-use lib.ListN.{getD}
+use lib.ListN.{length, getD, replicate}
+use Rattle.fixed.specs.Fixed.{Range, isIn}
+use Rattle.settings.specs.Ranges as range
+use Rattle.settings.specs.declared.Field.{Field}
 use Rattle.settings.specs.declared.Settings.{Settings}
 use Rattle.settings.specs.declared.Checked.{Checked}
 use Rattle.settings.specs.declared.Checked.the-variants.{Accepted, Refused}
@@ -55,3 +59,61 @@ settingsOf l = record {
 abbrev pub valuesOf : Checked → List ℤ
 valuesOf (Accepted s) = wordsOf s
 valuesOf (Refused n) = []
+
+-- ════ the names
+-- a word's name, in bytes; whether it is a gain, of which 4096 are 1; its range
+pub record Entry : Type 0 where
+  pub name : List ℕ
+  pub gain : Bool
+  pub range : Range
+
+abbrev whole : List ℕ → Range → Entry
+whole name r = record { name = name; gain = false; range = r }
+
+abbrev gain : List ℕ → Range → Entry
+gain name r = record { name = name; gain = true; range = r }
+
+-- T, sKp, sKcor, sKi, cKp, cKcor, cKi, V, Q, Kr, Kt, Kth, Kn, F, R
+unfoldable pub entries : List Entry
+entries =
+    whole (84 ∷ []) range.t
+    ∷ gain (115 ∷ 75 ∷ 112 ∷ []) range.kp
+    ∷ gain (115 ∷ 75 ∷ 99 ∷ 111 ∷ 114 ∷ []) range.kcor
+    ∷ gain (115 ∷ 75 ∷ 105 ∷ []) range.ki
+    ∷ gain (99 ∷ 75 ∷ 112 ∷ []) range.kp
+    ∷ gain (99 ∷ 75 ∷ 99 ∷ 111 ∷ 114 ∷ []) range.kcor
+    ∷ gain (99 ∷ 75 ∷ 105 ∷ []) range.ki
+    ∷ whole (86 ∷ []) range.v
+    ∷ whole (81 ∷ []) range.q
+    ∷ whole (75 ∷ 114 ∷ []) range.kr
+    ∷ whole (75 ∷ 116 ∷ []) range.kt
+    ∷ whole (75 ∷ 116 ∷ 104 ∷ []) range.kth
+    ∷ whole (75 ∷ 110 ∷ []) range.kn
+    ∷ whole (70 ∷ []) range.f
+    ∷ whole (82 ∷ []) range.r
+    ∷ []
+
+-- entry i, counted from 0
+abbrev pub entryAt : ℕ → Entry
+entryAt i = getD entries i (whole [] range.t)
+
+-- how a line of the sheet begins: the name and an equals sign (61)
+abbrev pub key : Entry → List ℕ
+key e = e .name ++ (61 ∷ [])
+
+-- an entry as the code keeps it: the key in six places, the last of them blank (32)
+unfoldable pub fieldOf : Entry → Field
+fieldOf e = record {
+  key = key e ++ replicate (6 - length (key e)) 32;
+  size = length (key e);
+  gain = e .gain;
+  lo = pos (e .range .lo);
+  hi = pos (e .range .hi);
+}
+
+-- words that are as many as the entries, each in its range
+unfoldable pub allIn : List Entry → List ℤ → Bool
+allIn [] [] = true
+allIn [] (z ∷ zs) = false
+allIn (e ∷ es) [] = false
+allIn (e ∷ es) (z ∷ zs) = isIn (e .range) z && allIn es zs

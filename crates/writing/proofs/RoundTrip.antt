@@ -36,19 +36,19 @@ value-more n [] b = refl
 value-more n (a ∷ bs) b = value-more (n * 10 + (a - 48)) bs b
 
 -- ════ a count
-count-digits : (n : ℕ) → allDigits (countText n) ≡ true
+pub count-digits : (n : ℕ) → allDigits (countText n) ≡ true
 unfolding countText allDigits
 count-digits n =
     by-digits (λ k n ds. allDigits ds ≡ true) (λ k n e. and-both (digit-good n) refl) (λ k n ds l h. all-more ds (digitOf n) h (digit-good n)) 19 n
 
-count-value : (n : ℕ) → n < 2 ^ 64 → valueOf 0 (countText n) ≡ n
+pub count-value : (n : ℕ) → n < 2 ^ 64 → valueOf 0 (countText n) ≡ n
 unfolding countText valueOf
 count-value n h =
     by-digits (λ k n ds. n < 10 ^ suc k → valueOf 0 ds ≡ n) (λ k n e h. let l = e h in omega arith)
     (λ k n ds l f h. value-more 0 ds (digitOf n) ∙ omega (arith, f (tenth (suc k) n h))) 19 n (omega arith)
 
 -- at least one digit
-count-some : (n : ℕ) → 0 < length (countText n)
+pub count-some : (n : ℕ) → 0 < length (countText n)
 unfolding countText
 count-some n =
     by-digits (λ k n ds. 0 < length ds) (λ k n e. omega arith) (λ k n ds l h. rw (length-more ds (digitOf n)) (omega arith)) 19 n

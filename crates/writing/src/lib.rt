@@ -60,7 +60,7 @@ pub fn put_count(count: u64, out: &mut [u8], at: usize) -> usize
 }
 
 // A number without its sign, taken in 64 bits, where that of the least number fits.
-fn size(v: i32) -> u64
+pub fn size(v: i32) -> u64
     ensures { λ r. ⌜ r ≡ natAbs v ⌝ }
 {
     let z = v as i64;
