@@ -93,9 +93,13 @@ entries =
     ∷ whole (82 ∷ []) range.r
     ∷ []
 
+-- no entry
+abbrev pub noEntry : Entry
+noEntry = whole [] range.t
+
 -- entry i, counted from 0
 abbrev pub entryAt : ℕ → Entry
-entryAt i = getD entries i (whole [] range.t)
+entryAt i = getD entries i noEntry
 
 -- how a line of the sheet begins: the name and an equals sign (61)
 abbrev pub key : Entry → List ℕ

@@ -1,0 +1,4 @@
+pub mod Value
+pub mod Sheet
+pub mod Faults
+pub mod Calls
