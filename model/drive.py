@@ -401,7 +401,7 @@ def run(record, samples, output):
     return RunAnswer(0, accepted, clipped, written + list(output[len(written):]), record)
 
 
-# The program
+# The program run_rows
 
 def numbers_of_line(line):
     """The decimal numbers of a line of bytes without its line feed, with one space between; None where it is anything else."""

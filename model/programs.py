@@ -5,6 +5,7 @@ import re
 
 import drive
 import moments as last_moments
+import sheet
 
 ROOT = os.path.dirname(os.path.dirname(os.path.realpath(__file__)))
 
@@ -326,3 +327,44 @@ def flux():
             place.write('after %d steps: flux %d, fine %d' % (steps, reckoned, place.record['fine']))
     place.write('refused %d' % refused)
     return text_of(place.lines)
+
+
+# examples/sheets.c
+
+class Workshop(Place):
+    """A drive record and settings in place, and sheets that are read and written."""
+
+    # MIRGALHET_SHEET_ROOM of the header
+    ROOM = 187
+
+    def __init__(self):
+        super().__init__()
+        self.settings = {setting.name: 0 for setting in drive.SETTINGS}
+
+    def read_sheet(self, text):
+        reading = sheet.read(text)
+        after = self.settings if reading.settings is None else reading.settings
+        self.write('read %d, line %d, settings %s' % (reading.number, reading.line, 'as they were' if after == self.settings else 'replaced'))
+        self.settings = after
+
+    def write_sheet(self, room):
+        """The length."""
+        before = bytes(room)
+        writing = sheet.write(self.settings, before)
+        self.write('write %d, length %d, %s' % (writing.number, writing.length, 'nothing written' if writing.room == before else 'this sheet:'))
+        self.lines += writing.room[:writing.length].decode().splitlines()
+        return writing.length
+
+
+def sheets():
+    """What examples/sheets.c writes."""
+    bench = sheet.sheet_of(drive.BENCH)
+    workshop = Workshop()
+    workshop.read_sheet(bench)
+    workshop.write('start %d' % workshop.start(workshop.settings))
+    answer = workshop.step(0, 0, 0)
+    workshop.write('step %d, compares %d %d %d' % (answer.number, *answer.compares))
+    workshop.read_sheet(bench.replace(b'sKp=2\n', b'sKp=1,250\n'))
+    workshop.settings = {**workshop.settings, 'Q': 4096}
+    workshop.write_sheet(workshop.write_sheet(Workshop.ROOM) - 1)
+    return text_of(workshop.lines)

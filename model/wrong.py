@@ -3,14 +3,24 @@
 Those that change little of a rule call the right one, which is kept under its own name here before any is replaced.
 """
 
+import re
+
 import drive
 import moments
+import sheet
 
 right_tick = drive.tick
 right_refusal = drive.refusal
 right_clear = drive.clear
 right_stored = moments.stored
 right_row = moments.row
+right_whole_number = sheet.whole_number
+right_gain = sheet.gain
+right_value_of = sheet.value_of
+right_word_of_line = sheet.word_of_line
+right_good_words = sheet.good_words
+right_faulty_line = sheet.faulty_line
+right_found_in = sheet.found_in
 
 
 def towards_zero(number, divisor):
@@ -278,4 +288,220 @@ WRONG_MOMENTS = [
     ('a step on wild counts keeps the old rows', 'stored', stored_among_the_old_rows),
     ('a step on wild counts empties the other places', 'stored', stored_in_an_empty_record),
     ('with 19 the words that stand there', 'row', row_past_the_end),
+]
+
+
+# The sheet
+
+def whole_number_with_zeros_in_front(value):
+    return int(value) if re.fullmatch(rb'[0-9]{1,5}', value) else None
+
+
+def whole_number_of_six_digits(value):
+    return int(value) if re.fullmatch(rb'0|[1-9][0-9]{0,5}', value) else None
+
+
+def whole_number_of_nothing(value):
+    return right_whole_number(value or b'0')
+
+
+def whole_number_with_a_plus(value):
+    return right_whole_number(value[1:] if value.startswith(b'+') else value)
+
+
+def digits_with_zeros_behind(digits):
+    return re.fullmatch(rb'[0-9]{1,12}', digits) is not None
+
+
+def rounded_down(number):
+    return number * 4096 // 1
+
+
+def gain_with_a_comma(value):
+    return right_gain(value.replace(b',', b'.'))
+
+
+def gain_with_a_bare_point(value):
+    return right_gain(value[:-1] if value.endswith(b'.') else value)
+
+
+def gain_with_nothing_before_the_point(value):
+    return right_gain(b'0' + value if value.startswith(b'.') else value)
+
+
+def gain_with_a_thirteenth_digit(value):
+    """No 4096th has thirteen digits, so that the last of them is dropped."""
+    return right_gain(value[:-1] if re.fullmatch(rb'[0-9]+[.][0-9]{13}', value) else value)
+
+
+def gain_as_its_word(value):
+    return right_whole_number(value)
+
+
+def line_without_carriage_returns(name, line, is_ended):
+    return right_word_of_line(name, line.replace(b'\r', b''), is_ended)
+
+
+def line_without_blanks(name, line, is_ended):
+    return right_word_of_line(name, line.replace(b' ', b''), is_ended)
+
+
+def line_without_a_line_feed(name, line, _):
+    return right_word_of_line(name, line, True)
+
+
+def line_in_any_letters(name, line, is_ended):
+    return right_word_of_line(name.lower(), line.lower(), is_ended) if name not in sheet.GAINS else right_word_of_line(name, line, is_ended)
+
+
+def words_in_any_order(lines):
+    """Each line stands where its name belongs, and what has no name is dropped."""
+    by_name = {line.partition(b'=')[0].decode(errors='replace'): (line, is_ended) for line, is_ended in lines}
+    return right_good_words([by_name[name] for name in sheet.NAMES if name in by_name])
+
+
+def last_faulty_line(_, lines):
+    faulty = [16] if len(lines) > 15 else []
+    for line, name in enumerate(sheet.NAMES, 1):
+        if line > len(lines) or sheet.word_of_line(name, *lines[line - 1]) is None:
+            faulty.append(line)
+    return max(faulty, default=0)
+
+
+def faulty_line_without_the_end(words, _):
+    return len(words) + 1 if len(words) < 15 else 0
+
+
+def faulty_line_of_those_there(words, lines):
+    """Where a line is missing, the one before it."""
+    return min(right_faulty_line(words, lines), max(len(lines), 1))
+
+
+def faulty_line_up_to_15(words, lines):
+    return min(right_faulty_line(words, lines), 15)
+
+
+def read_that_takes_all(text):
+    line, settings = sheet.line_and_settings(text)
+    return sheet.Reading(17 if line else 0, line, settings)
+
+
+def room_with_a_byte_to_spare(text, room):
+    return len(text) < len(room)
+
+
+def write_number_with_18_first(settings, room):
+    return drive.refusal(settings) if sheet.has_room(sheet.sheet_of(settings), room) else 18
+
+
+def write_number_of_the_room_alone(settings, room):
+    return 0 if sheet.has_room(sheet.sheet_of(settings), room) else 18
+
+
+def write_that_clears_the_room(settings, room):
+    number = sheet.write_number(settings, room)
+    text = sheet.sheet_of(settings) if number == 0 else b''
+    return sheet.Writing(number, len(text), text + bytes(len(room) - len(text)) if number == 0 else room)
+
+
+def value_with_a_point(name, word):
+    value = right_value_of(name, word)
+    return value + '.0' if name in sheet.GAINS and '.' not in value else value
+
+
+def value_of_six_digits(name, word):
+    return right_value_of(name, word)[:8]
+
+
+# The same for the rules in sheet.py that tests/sheets.c shows.
+WRONG_SHEETS = [
+    ('a comma taken for a point', 'gain', gain_with_a_comma),
+    ('a zero in front taken', 'whole_number', whole_number_with_zeros_in_front),
+    ('a zero behind taken', 'is_behind_a_point', digits_with_zeros_behind),
+    ('what is no 4096th rounded down', 'in_4096ths', rounded_down),
+    ('six digits taken', 'whole_number', whole_number_of_six_digits),
+    ('no digit taken as 0', 'whole_number', whole_number_of_nothing),
+    ('a plus sign taken', 'whole_number', whole_number_with_a_plus),
+    ('thirteen digits behind the point taken', 'gain', gain_with_a_thirteenth_digit),
+    ('a bare point taken', 'gain', gain_with_a_bare_point),
+    ('nothing before the point taken', 'gain', gain_with_nothing_before_the_point),
+    ('a gain in 4096ths on the sheet', 'gain', gain_as_its_word),
+    ('a carriage return skipped', 'word_of_line', line_without_carriage_returns),
+    ('a blank skipped', 'word_of_line', line_without_blanks),
+    ('a missing line feed at the end taken', 'word_of_line', line_without_a_line_feed),
+    ('small and capital letters alike', 'word_of_line', line_in_any_letters),
+    ('lines in any order', 'good_words', words_in_any_order),
+    ('the last faulty line named', 'faulty_line', last_faulty_line),
+    ('bytes behind the last line taken', 'faulty_line', faulty_line_without_the_end),
+    ('bytes behind the last line counted to it', 'faulty_line', faulty_line_up_to_15),
+    ('the line before a missing one named', 'faulty_line', faulty_line_of_those_there),
+    ('a read that refuses no settings', 'read', read_that_takes_all),
+    ('18 at an exact fit', 'has_room', room_with_a_byte_to_spare),
+    ('numbers 1 to 5 after 18', 'write_number', write_number_with_18_first),
+    ('a write that refuses no settings', 'write_number', write_number_of_the_room_alone),
+    ('a write that clears the rest of the room', 'write', write_that_clears_the_room),
+    ('a gain written with a point always', 'value_of', value_with_a_point),
+    ('a gain written with six digits behind the point', 'value_of', value_of_six_digits),
+]
+
+
+# The program read_sheet
+
+def found_with_an_empty_line_as_nothing(text, line):
+    found = right_found_in(text, line)
+    return 'nothing' if found == '""' else found
+
+
+def found_and_more_at_40(text, line):
+    found = right_found_in(text, line)
+    return re.sub('^("[^\n]{40}").*', r'\1 and more', found)
+
+
+def found_without_the_missing_line_feed(text, line):
+    return right_found_in(text, line).replace(' without a line feed', '')
+
+
+def shown_up_to_127(found):
+    return re.sub(rb'[^ -\x7f]', b'?', found).decode()
+
+
+def shown_as_it_is(found):
+    return found.decode('latin-1')
+
+
+def shown_without_blanks(found):
+    return re.sub(rb'[^!-~]', b'?', found).decode()
+
+
+def out_of_range_last(settings):
+    """What is said of the last word that is out of its range."""
+    said = None
+    for name, setting in zip(sheet.NAMES, drive.SETTINGS):
+        word = settings[setting.name]
+        if not setting.lowest <= word <= setting.highest:
+            said = '%s is %s, and must be %s to %s' % (name, *(sheet.value_of(name, number) for number in (word, setting.lowest, setting.highest)))
+    return said
+
+
+def untied_current_first(settings):
+    current_gains = (settings[name] for name in ('current_Kp', 'current_Kcor', 'current_Ki'))
+    first, ki = ('s', settings['speed_Ki']) if drive.obeys_gain_law(*current_gains) else ('c', settings['current_Ki'])
+    return '%sKi is %s, and must be %sKp times %sKcor' % (first, sheet.value_of('sKi', ki), first, first)
+
+
+def value_as_its_word(_, word):
+    return str(word)
+
+
+# The same for those that the program read_sheet shows.
+WRONG_PROGRAM = [
+    ('an empty line as nothing', 'found_in', found_with_an_empty_line_as_nothing),
+    ('more than 40 bytes at 40', 'found_in', found_and_more_at_40),
+    ('a missing line feed not said', 'found_in', found_without_the_missing_line_feed),
+    ('byte 127 shown as it is', 'shown', shown_up_to_127),
+    ('every byte shown as it is', 'shown', shown_as_it_is),
+    ('a blank shown as a question mark', 'shown', shown_without_blanks),
+    ('the last word out of range named', 'out_of_range', out_of_range_last),
+    ('of the gain sets the current one looked at first', 'untied', untied_current_first),
+    ('gains said as words', 'value_of', value_as_its_word),
 ]

@@ -1,0 +1,40 @@
+"""The program tests/sheets.c, by the model: sheets read and written, one request after the other. README.md beside this file has the format."""
+
+from collections import namedtuple
+
+import drive
+import probe
+import sheet
+
+# What the program has in every word of the settings before a read, and in every byte of the room before a write; it shows so many bytes behind the room.
+MARK_WORD = -7
+MARK_BYTE = b'\xa5'
+BEHIND = 8
+
+# The names of the words that answer a request.
+ANSWERS = {'read': ['number', 'line'] + probe.SETTING_NAMES, 'write': ['number', 'length', 'room']}
+
+# A request: a text to read, or settings to write into room for so many bytes.
+Read = namedtuple('Read', 'text')
+Write = namedtuple('Write', 'settings room')
+
+
+def kind_of(request):
+    return 'read' if isinstance(request, Read) else 'write'
+
+
+def bytes_of(request):
+    """A request as the program reads it."""
+    if isinstance(request, Read):
+        return b'r %d\n' % len(request.text) + request.text
+    return b'w %s\n' % probe.joined((request.room, *request.settings.values())).encode()
+
+
+def answer_of(request):
+    """The line that answers a request."""
+    if isinstance(request, Read):
+        reading = sheet.read(request.text)
+        words = [MARK_WORD] * len(drive.SETTINGS) if reading.settings is None else reading.settings.values()
+        return probe.joined((reading.number, reading.line, *words))
+    writing = sheet.write(request.settings, MARK_BYTE * request.room)
+    return '%d %d %s' % (writing.number, writing.length, (writing.room + MARK_BYTE * BEHIND).hex())
