@@ -70,7 +70,7 @@ static const char *kept(bool yes)
     return yes ? "record as it was" : "record changed";
 }
 
-/* The three rows of docs/RULES.md, "The program": a step, a sample out of range, which trips, and a step of the tripped drive. */
+/* The three rows of docs/RULES.md, "The program run_rows": a step, a sample out of range, which trips, and a step of the tripped drive. */
 static void rows(mirgalhet_drive *d)
 {
     mirgalhet_drive before;

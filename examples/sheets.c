@@ -1,6 +1,6 @@
 /* Settings as a sheet of text, so that a workshop can read, keep and change them. A drive is started from a sheet; one with a comma in it is
- * refused, and the line is named; settings are written back, into room enough and into room that is too short. bin/library says how to
- * compile and link it; bin/interrupt_example compares what it writes with sheets.out. */
+ * refused, the line is named, and the settings that come back start no drive; settings are written, into room enough and into room that is
+ * too short. bin/library says how to compile and link it; bin/interrupt_example compares what it writes with sheets.out. */
 #include <stdio.h>
 #include <string.h>
 
@@ -17,20 +17,25 @@ static const char bench[] = SHEET("sKp=2\n");
 static const char comma[] = SHEET("sKp=1,250\n");
 
 static mirgalhet_drive drive; // zeroed, and so broken until it is started
-static mirgalhet_settings settings;
 
-/* Where the number is not 0 the settings stay as they were, so that a drive is never started with half a sheet. */
-static void read_sheet(const char *text)
+static mirgalhet_settings read_sheet(const char *text)
 {
-    const mirgalhet_settings before = settings;
-    mirgalhet_reading r = mirgalhet_read_sheet((const uint8_t *)text, strlen(text), &settings);
+    mirgalhet_reading r = mirgalhet_read_sheet((const uint8_t *)text, strlen(text));
 
-    printf("read %d, line %d, settings %s\n", (int)r.number, (int)r.line,
-           memcmp(&before, &settings, sizeof settings) == 0 ? "as they were" : "replaced");
+    printf("read %d, line %d\n", (int)r.number, (int)r.line);
+    return r.settings;
+}
+
+/* No one here looks at the number of the read, as you should: even so a refused sheet starts no drive, and one that runs goes on. */
+static void start_and_step(mirgalhet_settings settings)
+{
+    printf("start %d\n", (int)mirgalhet_start(&drive, settings));
+    mirgalhet_output o = mirgalhet_step(&drive, 0, 0, 0);
+    printf("step %d, compares %d %d %d\n", (int)o.number, (int)o.a, (int)o.b, (int)o.c);
 }
 
 /* A sheet has no zero byte behind it: its length alone says where it ends. Gives that length. */
-static int32_t write_sheet(size_t room)
+static int32_t write_sheet(mirgalhet_settings settings, size_t room)
 {
     const uint8_t before[MIRGALHET_SHEET_ROOM] = {0};
     uint8_t out[MIRGALHET_SHEET_ROOM] = {0};
@@ -44,15 +49,12 @@ static int32_t write_sheet(size_t room)
 
 int main(void)
 {
-    read_sheet(bench);
-    printf("start %d\n", (int)mirgalhet_start(&drive, settings));
-    mirgalhet_output o = mirgalhet_step(&drive, 0, 0, 0);
-    printf("step %d, compares %d %d %d\n", (int)o.number, (int)o.a, (int)o.b, (int)o.c);
-
-    read_sheet(comma);
+    mirgalhet_settings settings = read_sheet(bench);
+    start_and_step(settings);
+    start_and_step(read_sheet(comma));
 
     settings.q = 4096; // more torque than on the bench
-    int32_t length = write_sheet(MIRGALHET_SHEET_ROOM);
-    write_sheet((size_t)length - 1); // one byte too short
+    int32_t length = write_sheet(settings, MIRGALHET_SHEET_ROOM);
+    write_sheet(settings, (size_t)length - 1); // one byte too short
     return 0;
 }

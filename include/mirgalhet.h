@@ -1,12 +1,12 @@
 /* Mirgalhet: a vector drive for three-phase induction motors, on a record that lies where you have it.
  *
  * The rules are docs/RULES.md: every range, every rounding, every number handed back. The functions are proved: what each does is said once,
- * as an equation for every record and every number, in crates/drive/specs, crates/field/specs, crates/interrupt/specs and
- * crates/moments/specs. This header has the same in words.
+ * as an equation for every record and every number, in crates/drive/specs, crates/field/specs, crates/interrupt/specs,
+ * crates/moments/specs and crates/sheet/specs. This header has the same in words.
  *
  * Link with libmirgalhet.a, which `bin/library DIR` puts beside this header, for x86-64. It allocates nothing and keeps nothing between
  * calls: all there is of a drive is its record, and the one of its last moments where you keep that. Two drives are two records.
- * From outside it needs memcpy and memset, for mirgalhet_recorded_start and mirgalhet_recorded_clear, and nothing else.
+ * From outside it needs memcpy and memset, for mirgalhet_recorded_start, mirgalhet_recorded_clear and mirgalhet_write_sheet, and nothing else.
  *
  * An interrupt, once a period; `station` stands for your registers:
  *
@@ -38,6 +38,9 @@
  * start the drive, and a refused step stores nothing. So after a trip the rows stay as they are: the main line can read them while the
  * interrupt goes on, and clear when it has them. examples/moments.c does that.
  *
+ * Settings can stand in a sheet, fifteen lines of text such as `sKp=1.25`, in flash or on a card: mirgalhet_read_sheet gives them, or names the
+ * first line that is wrong, and mirgalhet_write_sheet writes such a sheet. examples/sheets.c does that. They are for the main line.
+ *
  * What you must do, since the drive cannot:
  *   - Disable the gates on any number but 0 that a step hands back. The compares that come with it are no substitute: T, T, T, with 6 and 7,
  *     turn every upper switch off and so, in a bridge with complementary switches, every lower one on; 0, 0, 0, with 14, turn every
@@ -53,10 +56,12 @@
  *     another on the same record: the main line keeps the interrupt out while it starts, clears or sets a target.
  *   - m points to a record of the last moments, and the same holds of it. The main line keeps the interrupt out while it reads rows too, from
  *     the first to the last where they are to fit together: each accepted step moves them on. After a trip none does, and it need not.
+ *   - text points to length bytes, out to room bytes, neither of them null even where that is 0, and nothing else writes those bytes during
+ *     the call.
  *   - A flag (seen, tripped) is true or false. Before the first mirgalhet_start make a record with `mirgalhet_drive d = {0};` in C, with
  *     `mirgalhet_drive d = {};` in C++, or have it static: flags that were never written may be neither.
  * Nothing else is owed: every 32-bit number is allowed in every word of either record, in every sample, in every target, in every setting
- * and as the index of a row.
+ * and as the index of a row, and every byte in a text.
  *
  * Units, as in docs/RULES.md, "Numbers and units":
  *   gains     4096 is 1.0
@@ -82,20 +87,22 @@
 extern "C" {
 #endif
 
-/* The numbers of docs/RULES.md, "Numbers handed back". 9 is a run's, which has no function here; 11 to 13 are free. */
+/* The numbers of docs/RULES.md, "Numbers handed back". 9 is a run's, which has no function here; 11, 12, 13, 15 and 16 are free. */
 enum mirgalhet_number {
     MIRGALHET_ACCEPTED = 0,
-    MIRGALHET_PERIOD = 1,       /* start: T out of range */
-    MIRGALHET_GAINS = 2,        /* start: a Kp, Kcor or Ki out of range */
-    MIRGALHET_GAINS_UNTIED = 3, /* start: either gain set breaks 4096 Ki = Kp Kcor */
-    MIRGALHET_LIMITS = 4,       /* start: V or Q out of range */
-    MIRGALHET_MOTOR = 5,        /* start: Kr, Kt, Kth, Kn, F or R out of range */
+    MIRGALHET_PERIOD = 1,       /* start, read, write: T out of range */
+    MIRGALHET_GAINS = 2,        /* start, read, write: a Kp, Kcor or Ki out of range */
+    MIRGALHET_GAINS_UNTIED = 3, /* start, read, write: either gain set breaks 4096 Ki = Kp Kcor */
+    MIRGALHET_LIMITS = 4,       /* start, read, write: V or Q out of range */
+    MIRGALHET_MOTOR = 5,        /* start, read, write: Kr, Kt, Kth, Kn, F or R out of range */
     MIRGALHET_SAMPLE = 6,       /* step: ia, ib or ia + ib outside +-8191, or count outside 0..65535 */
     MIRGALHET_TRIPPED = 7,      /* step, target: the drive is tripped */
     MIRGALHET_TARGET = 8,       /* target: outside +-8191 */
     MIRGALHET_RUN = 9,          /* a run: samples not in threes, or output too short */
     MIRGALHET_NOT_TRIPPED = 10, /* clear: the drive is not tripped */
     MIRGALHET_BROKEN = 14,      /* step, target, clear: the record is broken */
+    MIRGALHET_NO_SHEET = 17,    /* read: the text is no sheet */
+    MIRGALHET_SHORT_ROOM = 18,  /* write: the sheet is longer than the room */
     MIRGALHET_NO_ROW = 19       /* row: there is no such row */
 };
 
@@ -191,6 +198,22 @@ typedef struct mirgalhet_row {
     int32_t c;
 } mirgalhet_row;
 
+/* Room for the sheet of any settings that are not refused. */
+#define MIRGALHET_SHEET_ROOM 187
+
+/* What reading a sheet answers. */
+typedef struct mirgalhet_reading {
+    int32_t number;
+    int32_t line;                /* with 17 the first faulty line, 1..16, otherwise 0 */
+    mirgalhet_settings settings; /* with 0 those of the sheet, otherwise zeros */
+} mirgalhet_reading;
+
+/* What writing one answers. */
+typedef struct mirgalhet_writing {
+    int32_t number;
+    int32_t length; /* with 0 the bytes of the sheet, otherwise 0 */
+} mirgalhet_writing;
+
 /* A fresh drive with these settings in the place of *d. The lowest number that applies is given.
  *   0        *d is the fresh drive of these settings: not tripped, every other word 0 but the flux reference, which is F.
  *   1 to 5   the settings are refused; *d is as it was.
@@ -245,6 +268,22 @@ int32_t mirgalhet_recorded_count(const mirgalhet_moments *m);
  *   0        the row is there.
  *   19       there is no such row: i is below 0, or not below the count. The rest is 0. */
 mirgalhet_row mirgalhet_recorded_row(const mirgalhet_moments *m, int32_t i);
+
+/* Settings from a text of length bytes: docs/RULES.md, "The sheet". Its number is
+ *   0        the text is a sheet, and settings are those that it has.
+ *   17       the text is no sheet: line is the first that is not as it must be, from 1. A line that is missing, or has no line feed, is not;
+ *            it is 16 where bytes follow the fifteenth, as the rest of a page of flash would. Comes before 1 to 5.
+ *   1 to 5   the text is a sheet of settings that are refused; the lowest that applies.
+ * With 1 to 5 and 17 all of settings is 0, which mirgalhet_start refuses with 1: a number that nobody looked at starts no drive. */
+mirgalhet_reading mirgalhet_read_sheet(const uint8_t *text, size_t length);
+
+/* The sheet of these settings, into room for so many bytes. Its number is
+ *   0        the sheet stands in the first length bytes of out, with no zero byte behind it; the rest of out is as it was. It is read as
+ *            these same settings.
+ *   1 to 5   the settings are refused; the lowest that applies. Comes before 18.
+ *   18       the sheet has more than room bytes. With a room of MIRGALHET_SHEET_ROOM that does not come.
+ * With 1 to 5 and 18 all of out is as it was. */
+mirgalhet_writing mirgalhet_write_sheet(mirgalhet_settings settings, uint8_t *out, size_t room);
 
 /* The archive was compiled for this layout; a compiler that lays the structs out in another way cannot call it. */
 #ifdef __cplusplus
@@ -322,6 +361,13 @@ MIRGALHET_AT(mirgalhet_row, speed, 12);
 MIRGALHET_AT(mirgalhet_row, a, 16);
 MIRGALHET_AT(mirgalhet_row, b, 20);
 MIRGALHET_AT(mirgalhet_row, c, 24);
+MIRGALHET_SIZE(mirgalhet_reading, 68);
+MIRGALHET_AT(mirgalhet_reading, number, 0);
+MIRGALHET_AT(mirgalhet_reading, line, 4);
+MIRGALHET_AT(mirgalhet_reading, settings, 8);
+MIRGALHET_SIZE(mirgalhet_writing, 8);
+MIRGALHET_AT(mirgalhet_writing, number, 0);
+MIRGALHET_AT(mirgalhet_writing, length, 4);
 
 #undef MIRGALHET_AT
 #undef MIRGALHET_SIZE

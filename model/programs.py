@@ -6,6 +6,7 @@ import re
 import drive
 import moments as last_moments
 import sheet
+from sheets import handed_back
 
 ROOT = os.path.dirname(os.path.dirname(os.path.realpath(__file__)))
 
@@ -332,25 +333,26 @@ def flux():
 # examples/sheets.c
 
 class Workshop(Place):
-    """A drive record and settings in place, and sheets that are read and written."""
+    """A drive record in place, and sheets that are read and written."""
 
     # MIRGALHET_SHEET_ROOM of the header
     ROOM = 187
 
-    def __init__(self):
-        super().__init__()
-        self.settings = {setting.name: 0 for setting in drive.SETTINGS}
-
     def read_sheet(self, text):
+        """The settings that come back."""
         reading = sheet.read(text)
-        after = self.settings if reading.settings is None else reading.settings
-        self.write('read %d, line %d, settings %s' % (reading.number, reading.line, 'as they were' if after == self.settings else 'replaced'))
-        self.settings = after
+        self.write('read %d, line %d' % (reading.number, reading.line))
+        return handed_back(reading)
 
-    def write_sheet(self, room):
+    def start_and_step(self, settings):
+        self.write('start %d' % self.start(settings))
+        answer = self.step(0, 0, 0)
+        self.write('step %d, compares %d %d %d' % (answer.number, *answer.compares))
+
+    def write_sheet(self, settings, room):
         """The length."""
         before = bytes(room)
-        writing = sheet.write(self.settings, before)
+        writing = sheet.write(settings, before)
         self.write('write %d, length %d, %s' % (writing.number, writing.length, 'nothing written' if writing.room == before else 'this sheet:'))
         self.lines += writing.room[:writing.length].decode().splitlines()
         return writing.length
@@ -360,11 +362,9 @@ def sheets():
     """What examples/sheets.c writes."""
     bench = sheet.sheet_of(drive.BENCH)
     workshop = Workshop()
-    workshop.read_sheet(bench)
-    workshop.write('start %d' % workshop.start(workshop.settings))
-    answer = workshop.step(0, 0, 0)
-    workshop.write('step %d, compares %d %d %d' % (answer.number, *answer.compares))
-    workshop.read_sheet(bench.replace(b'sKp=2\n', b'sKp=1,250\n'))
-    workshop.settings = {**workshop.settings, 'Q': 4096}
-    workshop.write_sheet(workshop.write_sheet(Workshop.ROOM) - 1)
+    settings = workshop.read_sheet(bench)
+    workshop.start_and_step(settings)
+    workshop.start_and_step(workshop.read_sheet(bench.replace(b'sKp=2\n', b'sKp=1,250\n')))
+    settings = {**settings, 'Q': 4096}
+    workshop.write_sheet(settings, workshop.write_sheet(settings, Workshop.ROOM) - 1)
     return text_of(workshop.lines)

@@ -6,8 +6,7 @@ import drive
 import probe
 import sheet
 
-# What the program has in every word of the settings before a read, and in every byte of the room before a write; it shows so many bytes behind the room.
-MARK_WORD = -7
+# What the program has in every byte of the room before a write; it shows so many bytes behind the room.
 MARK_BYTE = b'\xa5'
 BEHIND = 8
 
@@ -30,11 +29,15 @@ def bytes_of(request):
     return b'w %s\n' % probe.joined((request.room, *request.settings.values())).encode()
 
 
+def handed_back(reading):
+    """The settings that the call in C hands back: with a refusal zeros, which start no drive."""
+    return {setting.name: 0 for setting in drive.SETTINGS} if reading.settings is None else reading.settings
+
+
 def answer_of(request):
     """The line that answers a request."""
     if isinstance(request, Read):
         reading = sheet.read(request.text)
-        words = [MARK_WORD] * len(drive.SETTINGS) if reading.settings is None else reading.settings.values()
-        return probe.joined((reading.number, reading.line, *words))
+        return probe.joined((reading.number, reading.line, *handed_back(reading).values()))
     writing = sheet.write(request.settings, MARK_BYTE * request.room)
     return '%d %d %s' % (writing.number, writing.length, (writing.room + MARK_BYTE * BEHIND).hex())

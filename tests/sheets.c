@@ -1,8 +1,8 @@
 /* Reads and writes sheets of settings, as standard input asks for them, one request after the other, and answers each in a line.
- * model/compare --sheets writes the requests and compares the answers; model/README.md has the format. What a call may not write is marked
- * before it and shown behind it: the settings that a read is to fill in, the room of a write and some bytes behind that.
+ * model/compare --sheets writes the requests and compares the answers; model/README.md has the format. What a write may not touch is marked
+ * before it and shown behind it: the room, and some bytes behind that.
  *
- * Ends with status 1 where a call wrote before the room or beside the settings, or where the input is no such request. */
+ * Ends with status 1 where a call wrote before the room, or where the input is no such request. */
 #include <inttypes.h>
 #include <stdio.h>
 #include <stdlib.h>
@@ -10,7 +10,7 @@
 
 #include "mirgalhet.h"
 
-enum { WORDS = 15, MARGIN = 8, MARK_WORD = -7, MARK_BYTE = 0xa5 };
+enum { WORDS = 15, MARGIN = 8, MARK_BYTE = 0xa5 };
 
 static void fails(const char *words)
 {
@@ -52,14 +52,6 @@ static uint8_t *memory(size_t length)
     return bytes;
 }
 
-/* Settings with one number in every word. */
-static mirgalhet_settings all(int32_t n)
-{
-    const mirgalhet_settings s = {n, n, n, n, n, n, n, n, n, n, n, n, n, n, n};
-
-    return s;
-}
-
 static mirgalhet_settings settings(void)
 {
     mirgalhet_settings s;
@@ -93,20 +85,16 @@ static void show_settings(const mirgalhet_settings *s)
 /* r LENGTH, a line feed and so many bytes, which may be any. */
 static void read_sheet(void)
 {
-    const mirgalhet_settings mark = all(MARK_WORD);
-    mirgalhet_settings lies[3] = {mark, mark, mark}; /* the call may write the one in the middle */
     const size_t length = size();
     uint8_t *text = memory(length);
 
     end_of_line();
     if (fread(text, 1, length, stdin) != length)
         fails("a sheet is shorter than its length");
-    const mirgalhet_reading answer = mirgalhet_read_sheet(text, length, &lies[1]);
+    const mirgalhet_reading answer = mirgalhet_read_sheet(text, length);
     free(text);
-    if (memcmp(&lies[0], &mark, sizeof mark) != 0 || memcmp(&lies[2], &mark, sizeof mark) != 0)
-        fails("a read wrote beside the settings");
     printf("%" PRId32 " %" PRId32, answer.number, answer.line);
-    show_settings(&lies[1]);
+    show_settings(&answer.settings);
     printf("\n");
 }
 

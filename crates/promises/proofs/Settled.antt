@@ -9,6 +9,7 @@ use borrow.Fn.Kinds.{PK, RK, Dens, resT, endedOf, In, Out}
 use denote.Triple.Clauses.{AtExit}
 use Rattle.promises.specs.Settled.{Settled, CheckSettled, FreshSettled, MakeSettled, NumberSettled, StepSettled, TargetSettled, ClearSettled}
 use Rattle.promises.specs.Settled.{RunSettled, EmptySettled, RecordedStepSettled, RecordedClearSettled, CountSettled, RowSettled, FluxSettled}
+use Rattle.promises.specs.Settled.{ReadSettled, WriteSettled, ReadSheetSettled, WriteSheetSettled}
 
 settled : {n : ℕ} {ps : List (PK n)} {r : RK n} {asks : In n ps} {ensures : Out n ps r} {B : Type 0}
     {outcome : (κs : Lfts n) → resT r κs .Denot → AtExit (endedOf n ps r) κs → B} {definition : (κs : Lfts n) → Dens κs ps → B}
@@ -74,3 +75,15 @@ module _ {A B C : Type 0} {u v : A} {d e : B} {m n : C} where
 
 pub run-settled : RunSettled
 run-settled = settled (λ κs a. tt) (λ κs a u x. (paired, parted))
+
+pub read-settled : ReadSettled
+read-settled = settled (λ κs a. tt) (λ κs a u x. (λ p. p, λ p. p))
+
+pub write-settled : WriteSettled
+write-settled = settled (λ κs a. tt) (λ κs a u x. (paired, parted))
+
+pub read-sheet-settled : ReadSheetSettled
+read-sheet-settled = settled (λ κs a. tt) (λ κs a u x. (λ p. p, λ p. p))
+
+pub write-sheet-settled : WriteSheetSettled
+write-sheet-settled = settled (λ κs a. tt) (λ κs a u x. (paired, parted))

@@ -5,6 +5,7 @@ use mathlib.Core.Logic.{_↔_}
 use mathlib.Core.List.{List}
 use Prim.Native.Nat.{ℕ}
 use lib.IntN.{ℤ, pos}
+use lib.ListN.{length}
 use contract.Lifetimes.{Lfts}
 use borrow.Fn.Kinds.{PK, RK, Dens, resT, endedOf, In, Out}
 use denote.Triple.Clauses.{AtExit}
@@ -37,10 +38,22 @@ use Rattle.moments.proofs.moment.Reads as moment
 use Rattle.moments.proofs.moment.Kinds as moment-kinds
 use Rattle.interrupt.proofs.mirgalhet_flux.Reads as mirgalhet_flux
 use Rattle.interrupt.proofs.mirgalhet_flux.Kinds as mirgalhet_flux-kinds
+use Rattle.sheet.proofs.read.Reads as read
+use Rattle.sheet.proofs.read.Kinds as read-kinds
+use Rattle.sheet.proofs.write.Reads as write
+use Rattle.sheet.proofs.write.Kinds as write-kinds
+use Rattle.sheet.proofs.mirgalhet_read_sheet.Reads as mirgalhet_read_sheet
+use Rattle.sheet.proofs.mirgalhet_read_sheet.Kinds as mirgalhet_read_sheet-kinds
+use Rattle.sheet.proofs.mirgalhet_write_sheet.Reads as mirgalhet_write_sheet
+use Rattle.sheet.proofs.mirgalhet_write_sheet.Kinds as mirgalhet_write_sheet-kinds
 use Rattle.field.specs.Field.{fluxOf}
 use Rattle.settings.specs.Settings.{checked}
 use Rattle.drive.specs.Calls.{fresh as freshOf, made, madeNumber, stepped, targeted, cleared}
 use Rattle.rows.specs.Rows.{runOf, outputAfter}
+use Rattle.sheet.specs.declared.Wrote.{Wrote}
+use Rattle.sheet.specs.declared.Writing.{Writing}
+use Rattle.sheet.specs.Sheet.{readSheet, wrote, sheetIn}
+use Rattle.sheet.specs.Calls.{readingOf, writingOf}
 use Rattle.moments.specs.Moments.{none, recorded, emptied, realRows, momentAt}
 use Rattle.promises.specs.Demand1.{Run}
 
@@ -108,3 +121,20 @@ RowSettled = Settled 0 moment-kinds.ps moment-kinds.r moment.Pre moment.Post (λ
 -- the flux of a record's word
 abbrev pub FluxSettled : Type 0
 FluxSettled = Settled 0 mirgalhet_flux-kinds.ps mirgalhet_flux-kinds.r mirgalhet_flux.Pre mirgalhet_flux.Post (λ κs u x. u) (λ κs a. fluxOf (a .0))
+
+-- a sheet that is read, and one that is written: the answer, and the bytes lent to it
+abbrev pub ReadSettled : Type 0
+ReadSettled = Settled 1 read-kinds.ps read-kinds.r read.Pre read.Post (λ κs u x. u) (λ κs a. readSheet (now (a .0)))
+
+abbrev pub WriteSettled : Type 0
+WriteSettled = Settled 1 write-kinds.ps write-kinds.r write.Pre write.Post {B = Wrote × List ℕ} (λ κs u x. (u, now (x .1 .0)))
+    (λ κs a. (wrote (a .0) (length (now (a .1 .0))), sheetIn (a .0) (now (a .1 .0))))
+
+-- the same for C
+abbrev pub ReadSheetSettled : Type 0
+ReadSheetSettled = Settled 1 mirgalhet_read_sheet-kinds.ps mirgalhet_read_sheet-kinds.r mirgalhet_read_sheet.Pre mirgalhet_read_sheet.Post (λ κs u x. u)
+    (λ κs a. readingOf (readSheet (now (a .0))))
+
+abbrev pub WriteSheetSettled : Type 0
+WriteSheetSettled = Settled 1 mirgalhet_write_sheet-kinds.ps mirgalhet_write_sheet-kinds.r mirgalhet_write_sheet.Pre mirgalhet_write_sheet.Post
+    {B = Writing × List ℕ} (λ κs u x. (u, now (x .1 .0))) (λ κs a. (writingOf (wrote (a .0) (length (now (a .1 .0)))), sheetIn (a .0) (now (a .1 .0))))

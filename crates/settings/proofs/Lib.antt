@@ -2,4 +2,4 @@ pub mod SettingsFromBits
 pub mod Ranges
 pub mod WordLaws
 pub mod AtBench
-pub mod Fields
+pub mod Names

@@ -1,12 +1,11 @@
 -- The settings as words, in the order of the sheet, and back; and each word's name, kind and range.
-use Prim.Native.Nat.{ℕ, _-_}
+use Prim.Native.Nat.{ℕ}
 use mathlib.Core.Bool.{Bool, true, false, _&&_}
 use mathlib.Core.List.{List, [], _∷_, _++_}
 use lib.IntN.{ℤ, pos}
-use lib.ListN.{length, getD, replicate}
+use lib.ListN.{getD}
 use Rattle.fixed.specs.Fixed.{Range, isIn}
 use Rattle.settings.specs.Ranges as range
-use Rattle.settings.specs.declared.Field.{Field}
 use Rattle.settings.specs.declared.Settings.{Settings}
 use Rattle.settings.specs.declared.Checked.{Checked}
 use Rattle.settings.specs.declared.Checked.the-variants.{Accepted, Refused}
@@ -104,16 +103,6 @@ entryAt i = getD entries i noEntry
 -- how a line of the sheet begins: the name and an equals sign (61)
 abbrev pub key : Entry → List ℕ
 key e = e .name ++ (61 ∷ [])
-
--- an entry as the code keeps it: the key in six places, the last of them blank (32)
-unfoldable pub fieldOf : Entry → Field
-fieldOf e = record {
-  key = key e ++ replicate (6 - length (key e)) 32;
-  size = length (key e);
-  gain = e .gain;
-  lo = pos (e .range .lo);
-  hi = pos (e .range .hi);
-}
 
 -- words that are as many as the entries, each in its range
 unfoldable pub allIn : List Entry → List ℤ → Bool

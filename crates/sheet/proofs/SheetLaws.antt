@@ -4,9 +4,9 @@ use mathlib.Core.Path.{_≡_, refl, ap, ap₂, sym, _∙_, subst}
 use mathlib.Core.Bool.{Bool, true, false, not, _&&_, true≢false, cond}
 use mathlib.Core.List.{List, [], _∷_, _++_, append-assoc}
 use mathlib.Core.Logic.{_↔_, ⊎-elim}
-use Prim.Native.Nat.{ℕ, zero, suc, _+_, _≤_, _<_}
+use Prim.Native.Nat.{ℕ, suc, _+_, _<_}
 use native.Mathlib.Omega.{arith}
-use borrow.Author.Tests.{leb-false, lt-leb, ltb-true, lt-ltb, eqb-true, eq-eqb, ne-eqb}
+use borrow.Author.Tests.{leb-false, lt-leb, ltb-true, eqb-true, eq-eqb, ne-eqb}
 use lib.Dec.{eqb, ltb, leb}
 use lib.IntN.{ℤ, pos, negsuc, natAbs}
 use lib.ListN.{length, drop}
@@ -19,16 +19,17 @@ use Rattle.fixed.proofs.Ranges.{in-up, in-size}
 use Rattle.settings.specs.declared.Settings.{Settings}
 use Rattle.settings.specs.Settings.{accepted, refusal}
 use Rattle.settings.specs.Words.{Entry, entries, size, key, wordsOf, settingsOf, allIn}
-use Rattle.settings.proofs.Fields.{all-in}
+use Rattle.settings.proofs.Names.{all-in}
 use Rattle.settings.proofs.WordLaws.{settings-words}
-use Rattle.sheet.specs.declared.Number.{Number}
-use Rattle.sheet.specs.declared.Number.the-variants.{Is, Wrong}
+use Rattle.values.specs.declared.Number.{Number}
+use Rattle.values.specs.declared.Number.the-variants.{Is, Wrong}
 use Rattle.sheet.specs.declared.Outcome.the-variants.{Read, Refused, Faulty}
 use Rattle.sheet.specs.declared.Wrote.the-variants.{Length, Short}
-use Rattle.sheet.specs.Value.{valueText, before, has, behind}
+use Rattle.values.specs.Value.{valueText, before, has, behind}
 use Rattle.sheet.specs.Sheet.{lineText, linesText, sheetText, starts, lineOf, firstOf, Words, words, faulty, andThen, withFirst, readLines, settingsIn, linesOf, judged, outcome, readSheet, wrote, sheetIn}
-use Rattle.sheet.specs.Faults.{top, FirstFault, over, here, later}
-use Rattle.sheet.proofs.ValueLaws.{is-wrong, only-if, free, free-both, before-at, has-at, behind-at, split, value-top, value-only, value-back, value-free}
+use Rattle.values.specs.Value.{top}
+use Rattle.sheet.specs.Faults.{FirstFault, over, here, later}
+use Rattle.values.proofs.ValueLaws.{is-wrong, only-if, free, free-both, before-at, has-at, behind-at, split, value-top, value-only, value-back, value-free}
 
 -- ════ a line
 pub starts-own : (ns bs : List ℕ) → starts ns (ns ++ bs) ≡ true
@@ -67,17 +68,17 @@ line-whole : (e : Entry) (w : ℕ) (bs : List ℕ) → lineText e w ++ bs ≡ (k
 unfolding lineText
 line-whole e w bs = simp append-assoc
 
-first-back : (e : Entry) (w : ℕ) (bs : List ℕ) → w < top (e .gain) → free 10 (e .name) ≡ true → firstOf e (lineText e w ++ bs) ≡ Is w
+pub first-back : (e : Entry) (w : ℕ) (bs : List ℕ) → w < top (e .gain) → free 10 (e .name) ≡ true → firstOf e (lineText e w ++ bs) ≡ Is w
 unfolding firstOf
 first-back e w bs h n =
     let l = key e ++ valueText (e .gain) w in
     let f = free-line 10 e w (omega arith) n in
     rw (line-whole e w bs, has-at 10 l bs f, before-at 10 l bs f) (line-back e w h)
 
-rest-back : (e : Entry) (w : ℕ) (bs : List ℕ) → free 10 (e .name) ≡ true → behind 10 (lineText e w ++ bs) ≡ bs
+pub rest-back : (e : Entry) (w : ℕ) (bs : List ℕ) → free 10 (e .name) ≡ true → behind 10 (lineText e w ++ bs) ≡ bs
 rest-back e w bs n = rw (line-whole e w bs) (behind-at 10 (key e ++ valueText (e .gain) w) bs (free-line 10 e w (omega arith) n))
 
-first-only : (e : Entry) (bs : List ℕ) {w : ℕ} → firstOf e bs ≡ Is w → bs ≡ lineText e w ++ behind 10 bs
+pub first-only : (e : Entry) (bs : List ℕ) {w : ℕ} → firstOf e bs ≡ Is w → bs ≡ lineText e w ++ behind 10 bs
 unfolding firstOf
 first-only e bs {w} h =
     let t = only-if (has 10 bs) h in
@@ -190,7 +191,7 @@ fault-lines (later i j w e es more h f) p =
     rw (first-back e w more h n, rest-back e w more n, fault-lines f (and-right (free 10 (e .name)) (plain 10 es) p)) refl
 
 -- ════ the settings' own lines
-no-feeds : plain 10 entries ≡ true
+pub no-feeds : plain 10 entries ≡ true
 unfolding plain entries free
 no-feeds = refl
 
@@ -344,4 +345,4 @@ short-exactly s n = (
 
 pub untouched : (s : Settings) (out : List ℕ) → wrote s (length out) ≡ Short → sheetIn s out ≡ out
 unfolding sheetIn
-untouched s out e = let h = short-exactly s (length out) .0 e in rw (h .0, lt-leb (length (sheetText s)) (length out) (h .1)) refl
+untouched s out e = let h = short-exactly s (length out) .0 e in simp (h .0, lt-leb (length (sheetText s)) (length out) (h .1))

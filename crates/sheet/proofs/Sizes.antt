@@ -1,9 +1,9 @@
 -- How large a faulty line's number can be, and how long the sheet of accepted settings.
 -- Assumes nothing.
-use mathlib.Core.Path.{_≡_, refl, ap, sym, _∙_}
-use mathlib.Core.Bool.{Bool, true, false, cond, _&&_, true≢false}
-use mathlib.Core.List.{List, [], _∷_, _++_}
-use Prim.Native.Nat.{ℕ, zero, suc, _+_, _/_, _%_, _≤_, _<_}
+use mathlib.Core.Path.{_≡_, refl}
+use mathlib.Core.Bool.{Bool, true, false, cond, _&&_}
+use mathlib.Core.List.{List, [], _∷_}
+use Prim.Native.Nat.{ℕ, suc, _+_, _/_, _%_, _≤_}
 use native.Mathlib.Omega.{arith}
 use borrow.Author.Tests.{leb-true, ltb-true}
 use lib.Dec.{ltb, leb}
@@ -16,17 +16,17 @@ use Rattle.fixed.proofs.Ranges.{in-size}
 use Rattle.settings.specs.declared.Settings.{Settings}
 use Rattle.settings.specs.Settings.{accepted, refusal}
 use Rattle.settings.specs.Words.{Entry, entries, key, wordsOf, allIn}
-use Rattle.settings.proofs.Fields.{all-in}
+use Rattle.settings.proofs.Names.{all-in}
 use Rattle.writing.specs.Decimal.{countText}
 use Rattle.writing.proofs.DecimalLaws.{decimal-length}
-use Rattle.sheet.specs.declared.Number.{Number}
-use Rattle.sheet.specs.declared.Number.the-variants.{Is, Wrong}
+use Rattle.values.specs.declared.Number.{Number}
+use Rattle.values.specs.declared.Number.the-variants.{Is, Wrong}
 use Rattle.sheet.specs.declared.Outcome.the-variants.{Faulty}
 use Rattle.sheet.specs.declared.Wrote.the-variants.{Length, Barred, Short}
-use Rattle.sheet.specs.Value.{behind, gainText, valueText}
+use Rattle.values.specs.Value.{behind, gainText, valueText}
 use Rattle.sheet.specs.Sheet.{lineText, linesText, sheetText, firstOf, Words, words, faulty, andThen, withFirst, readLines, linesOf, readSheet, wrote}
 use Rattle.sheet.proofs.SheetLaws.{lines-faulty}
-use Rattle.sheet.proofs.Putting.{fraction-length}
+use Rattle.values.proofs.Putting.{fraction-length}
 
 -- ════ the number of a faulty line
 no-fault : {zs : List ℤ} {j : ℕ} → words zs ≡ faulty j → ⊥

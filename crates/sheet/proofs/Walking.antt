@@ -2,25 +2,22 @@
 -- Assumes nothing.
 use mathlib.Core.Path.{_≡_, refl, ap, ap₂, sym, _∙_}
 use mathlib.Core.List.{List, [], _∷_, _++_, append-assoc, append-nil}
-use Prim.Native.Nat.{ℕ, zero, suc, _+_, _-_, _≤_, _<_}
+use Prim.Native.Nat.{ℕ, suc, _+_, _≤_, _<_}
 use native.Mathlib.Numerals.{add-one}
 use native.Mathlib.Omega.{arith}
-use borrow.Author.Tests.{ltb-true, eqb-true, eqb-false}
-use lib.Dec.{eqb}
+use borrow.Author.Tests.{ltb-true}
 use mathlib.Core.Bool.{Bool, true, false}
-use mathlib.Core.Logic.{⊎-elim}
 use lib.IntN.{ℤ, pos}
-use lib.ListN.{length, getD, take, drop, set, replicate, length-set, length-drop, drop-of-length-le}
-use lib.Seq.{getD-set-same, getD-set-other, drop-cons, drop-drop, take-suc-set, take-all}
-use Rattle.sheet.specs.declared.Number.{Number}
-use Rattle.sheet.specs.declared.Number.the-variants.{Is, Wrong}
+use lib.ListN.{length, take, drop, set, replicate, length-set, length-drop, drop-of-length-le}
+use lib.Seq.{drop-cons, drop-drop, take-suc-set, take-all}
+use Rattle.values.specs.declared.Number.{Number}
+use Rattle.values.specs.declared.Number.the-variants.{Is, Wrong}
 use Rattle.sheet.specs.declared.Found.the-variants.{Good, Bad}
 use Rattle.settings.specs.Words.{entries, noEntry, entryAt, size as lineCount, settingsOf}
-use Rattle.sheet.specs.Value.{before, has, behind}
+use Rattle.values.specs.Value.{before, has, behind}
 use Rattle.sheet.specs.Sheet.{firstOf, Words, words, faulty, andThen, withFirst, readLines, settingsIn, linesOf}
-use Rattle.fixed.proofs.Choice.{true-or-false}
-use Rattle.sheet.specs.Faults.{top}
-use Rattle.sheet.proofs.ValueLaws.{only-if}
+use Rattle.values.specs.Value.{top}
+use Rattle.values.proofs.ValueLaws.{only-if}
 use Rattle.sheet.proofs.SheetLaws.{first-top, count-entries}
 
 -- words in front of what is read further

@@ -1,14 +1,10 @@
 -- The rule of the first faulty line, apart from the reader: it is the first that is not exactly name=value and a line feed, for a value that such a line can have.
 use mathlib.Core.Path.{_≡_}
 use Prim.Native.Nat.{ℕ, _+_, _<_}
-use mathlib.Core.Bool.{Bool, cond}
 use mathlib.Core.List.{List, [], _∷_, _++_}
 use Rattle.settings.specs.Words.{Entry}
+use Rattle.values.specs.Value.{top}
 use Rattle.sheet.specs.Sheet.{lineText}
-
--- a value has five digits in front of the point: a gain's word is below 100000·4096
-abbrev pub top : Bool → ℕ
-top gain = cond gain 409600000 100000
 
 -- of a text whose first line has the number i and should be the first of these lines, line j is the first faulty one
 pub data FirstFault : ℕ → List Entry → List ℕ → ℕ → Type 0 where

@@ -1,4 +1,4 @@
-pub mod Value
 pub mod Sheet
 pub mod Faults
 pub mod Calls
+pub mod Promised

@@ -9,15 +9,15 @@ use Rattle.settings.specs.declared.Settings.{Settings}
 use Rattle.settings.specs.Settings.{accepted, refusal}
 use Rattle.settings.specs.Words.{Entry, entries, key, wordsOf, settingsOf}
 use Rattle.writing.specs.Decimal.{written}
-use Rattle.sheet.specs.declared.Number.{Number}
-use Rattle.sheet.specs.declared.Number.the-variants.{Is, Wrong}
+use Rattle.values.specs.declared.Number.{Number}
+use Rattle.values.specs.declared.Number.the-variants.{Is, Wrong}
 use Rattle.sheet.specs.declared.Found.{Found}
 use Rattle.sheet.specs.declared.Found.the-variants.{Good, Bad}
 use Rattle.sheet.specs.declared.Outcome.{Outcome}
 use Rattle.sheet.specs.declared.Outcome.the-variants.{Read, Refused, Faulty}
 use Rattle.sheet.specs.declared.Wrote.{Wrote}
 use Rattle.sheet.specs.declared.Wrote.the-variants.{Length, Barred, Short}
-use Rattle.sheet.specs.Value.{valueText, numberOf, before, has, behind}
+use Rattle.values.specs.Value.{valueText, numberOf, before, has, behind}
 
 -- ════ its text
 -- a name, an equals sign, a value and a line feed (10)

@@ -4,22 +4,7 @@ ghost use mathlib.Core.Bool.{true};
 ghost use Prim.Native.Nat.{_+_, _*_, _^_, _≤_, _<_};
 ghost use lib.IntN.{pos};
 ghost use lib.ListN.{length, getD, take, drop};
-ghost use Rattle.sheet.specs.declared.Number.{Number};
-ghost use Rattle.text.specs.Grammar.{isDigit};
-ghost use Rattle.sheet.specs.Value.{
-  digitsOf,
-  wholeOf,
-  thsOf,
-  fractionOf,
-  before,
-  sum as sumOf,
-  Summands,
-  gainOf,
-  numberOf,
-  fractionDigits,
-  gainText,
-  valueText,
-};
+ghost use Rattle.values.specs.Value.{before};
 ghost use Rattle.writing.specs.Decimal.{written};
 ghost use Rattle.settings.specs.Settings.{accepted};
 ghost use Rattle.settings.specs.Words.{size as lineCount, entryAt, entries, wordsOf, settingsOf};
@@ -39,12 +24,7 @@ ghost use Rattle.sheet.specs.Sheet.{
 ghost use Rattle.sheet.specs.Calls.{noSettings, readingOf, writingOf, ShortLine, ShortLength};
 use settings::Checked;
 use settings::Settings;
-
-// What digits are read as.
-pub enum Number {
-    Is(u64),
-    Wrong,
-}
+use values::Number;
 
 // What stands in the lines of a text: settings, which need not be accepted, or the first faulty line, counted from 1.
 pub enum Found {
@@ -71,140 +51,6 @@ const LINES: usize = settings::WORDS;
 // Room for a sheet, whatever its words are: 40 bytes a line.
 const ROOM: usize = 40 * LINES;
 
-// How many bytes stand in front of the first b; all of them where there is none.
-fn find(s: &[u8], b: u8) -> usize
-    ensures { λ r. ⌜ r ≡ length (before b (now (s .entry))) ⌝ }
-{
-    let mut i = 0;
-    while i < s.len() {
-        if s[i] == b {
-            return i;
-        }
-        i += 1;
-    }
-    i
-}
-
-fn is_digit(b: u8) -> bool
-    ensures { λ r. ⌜ r ≡ isDigit b ⌝ }
-{
-    (48 <= b) & (b <= 57)
-}
-
-// One to n digits: their number.
-fn digits(s: &[u8], n: usize) -> Number
-    requires { ⌜ n ≤ 12 ⌝ }
-    ensures { λ r. ⌜ r ≡ digitsOf n (now (s .entry)) ⌝ }
-{
-    if s.len() < 1 {
-        return Number::Wrong;
-    }
-    if n < s.len() {
-        return Number::Wrong;
-    }
-    let mut value: u64 = 0;
-    let mut i = 0;
-    while i < s.len() {
-        if !is_digit(s[i]) {
-            return Number::Wrong;
-        }
-        value = value * 10 + (s[i] - 48) as u64;
-        i += 1;
-    }
-    Number::Is(value)
-}
-
-// A whole number: one to five digits, no zero before another digit.
-fn whole(s: &[u8]) -> Number
-    ensures { λ r. ⌜ r ≡ wholeOf (now (s .entry)) ⌝ }
-{
-    if s.len() < 2 {
-        return digits(s, 5);
-    }
-    if s[0] == 48 {
-        return Number::Wrong;
-    }
-    digits(s, 5)
-}
-
-fn power(n: usize) -> u64
-    requires { ⌜ n ≤ 12 ⌝ }
-    ensures { λ r. ⌜ r ≡ 10 ^ n ⌝ }
-{
-    let mut p: u64 = 1;
-    let mut i = 0;
-    while i < n {
-        p *= 10;
-        i += 1;
-    }
-    p
-}
-
-// v/10^n as 4096ths, if that is a whole number of them.
-fn ths(v: u64, n: usize) -> Number
-    requires { ⌜ (v < 10 ^ 12) × (n ≤ 12) ⌝ }
-    ensures { λ r. ⌜ r ≡ thsOf (10 ^ n) (Number.Is v) ⌝ }
-{
-    let p = power(n);
-    let w = v * 4096;
-    if w % p == 0 {
-        return Number::Is(w / p);
-    }
-    Number::Wrong
-}
-
-// What stands behind a point: one to twelve digits, the last of them no zero, that make a whole number of 4096ths.
-fn fraction(s: &[u8]) -> Number
-    ensures { λ r. ⌜ r ≡ fractionOf (now (s .entry)) ⌝ }
-{
-    let n = s.len();
-    if n < 1 {
-        return Number::Wrong;
-    }
-    if s[n - 1] == 48 {
-        return Number::Wrong;
-    }
-    let d = digits(s, 12);
-    let Number::Is(v) = d else {
-        return Number::Wrong;
-    };
-    ths(v, n)
-}
-
-fn sum(w: Number, f: Number) -> Number
-    requires { ⌜ Summands w f ⌝ }
-    ensures { λ r. ⌜ r ≡ sumOf w f ⌝ }
-{
-    let Number::Is(a) = w else {
-        return Number::Wrong;
-    };
-    let Number::Is(b) = f else {
-        return Number::Wrong;
-    };
-    Number::Is(a * 4096 + b)
-}
-
-fn gain(s: &[u8]) -> Number
-    ensures { λ r. ⌜ r ≡ gainOf (now (s .entry)) ⌝ }
-{
-    let p = find(s, 46);
-    if p < s.len() {
-        let w = whole(&s[..p]);
-        let f = fraction(&s[p + 1..]);
-        return sum(w, f);
-    }
-    sum(whole(s), Number::Is(0))
-}
-
-fn value(gain_line: bool, s: &[u8]) -> Number
-    ensures { λ r. ⌜ r ≡ numberOf «gain_line» (now (s .entry)) ⌝ }
-{
-    if gain_line {
-        return gain(s);
-    }
-    whole(s)
-}
-
 // Whether a text begins with the first n bytes of a key.
 fn begins(s: &[u8], key: [u8; 6], n: usize) -> bool
     requires { ⌜ n ≤ 6 ⌝ }
@@ -228,11 +74,11 @@ fn line(i: usize, s: &[u8]) -> Number
     requires { ⌜ i < lineCount ⌝ }
     ensures { λ r. ⌜ r ≡ lineOf (entryAt i) (now (s .entry)) ⌝ }
 {
-    let f = settings::field_at(i);
+    let f = names::field_at(i);
     let n = f.size;
     let key = f.key;
     if begins(s, key, n) {
-        return value(f.gain, &s[n..]);
+        return values::value(f.gain, &s[n..]);
     }
     Number::Wrong
 }
@@ -263,7 +109,7 @@ pub fn lines(text: &[u8]) -> Found
     let mut at = 0;
     let mut i = 0;
     while i < LINES {
-        let n = find(&text[at..], 10);
+        let n = values::find(&text[at..], 10);
         let f = first(i, &text[at..], n);
         let Number::Is(w) = f else {
             return Found::Bad(i + 1);
@@ -297,63 +143,26 @@ pub fn read(text: &[u8]) -> Outcome
     }
 }
 
-// The digits of f/4096 behind the point at a place; answers the place after them, as the next four do.
-fn put_fraction(f: u64, out: &mut [u8], at: usize) -> usize
-    requires { ⌜ (f < 4096) × (at + 12 ≤ length (now out)) ⌝ }
-    ensures { λ r. ⌜ (r ≡ at + length (fractionDigits 12 f)) × (now (out .exit) ≡ written (now (out .entry)) at (fractionDigits 12 f)) ⌝ }
-{
-    let mut rest = f;
-    let mut place = at;
-    while 0 < rest {
-        out[place] = 48 + (rest * 10 / 4096) as u8;
-        rest = rest * 10 % 4096;
-        place += 1;
-    }
-    place
-}
-
-fn put_gain(w: u64, out: &mut [u8], at: usize) -> usize
-    requires { ⌜ at + 33 ≤ length (now out) ⌝ }
-    ensures { λ r. ⌜ (r ≡ at + length (gainText w)) × (now (out .exit) ≡ written (now (out .entry)) at (gainText w)) ⌝ }
-{
-    let a = writing::put_count(w / 4096, out, at);
-    let f = w % 4096;
-    if f == 0 {
-        return a;
-    }
-    let b = writing::put_byte(46, out, a);
-    put_fraction(f, out, b)
-}
-
-fn put_value(is_gain: bool, w: u64, out: &mut [u8], at: usize) -> usize
-    requires { ⌜ at + 33 ≤ length (now out) ⌝ }
-    ensures { λ r. ⌜ (r ≡ at + length (valueText «is_gain» w)) × (now (out .exit) ≡ written (now (out .entry)) at (valueText «is_gain» w)) ⌝ }
-{
-    if is_gain {
-        return put_gain(w, out, at);
-    }
-    writing::put_count(w, out, at)
-}
-
 // Line i with its line feed, for which there is room whatever its word is.
 fn put_line(i: usize, w: u64, out: &mut [u8], at: usize) -> usize
     requires { ⌜ (i < lineCount) × (at + 40 ≤ length (now out)) ⌝ }
     ensures { λ r. ⌜ (r ≡ at + length (lineText (entryAt i) w)) × (now (out .exit) ≡ written (now (out .entry)) at (lineText (entryAt i) w)) × (r ≤ at + 40) ⌝ }
 {
-    let f = settings::field_at(i);
+    let f = names::field_at(i);
     let n = f.size;
     let key = f.key;
     let a = writing::put_text(&key[..n], out, at);
-    let b = put_value(f.gain, w, out, a);
+    let b = values::put_value(f.gain, w, out, a);
     writing::put_byte(10, out, b)
 }
 
-fn put_lines(words: [i32; LINES], out: &mut [u8]) -> usize
-    requires { ⌜ 40 * lineCount ≤ length (now out) ⌝ }
-    ensures { λ r. ⌜ (r ≡ length (linesText entries words)) × (now (out .exit) ≡ written (now (out .entry)) 0 (linesText entries words))
-        × (r ≤ 40 * lineCount) ⌝ }
+// The sheet with these words.
+pub fn put_lines(words: [i32; LINES], out: &mut [u8], at: usize) -> usize
+    requires { ⌜ at + 40 * lineCount ≤ length (now out) ⌝ }
+    ensures { λ r. ⌜ (r ≡ at + length (linesText entries words)) × (now (out .exit) ≡ written (now (out .entry)) at (linesText entries words))
+        × (r ≤ at + 40 * lineCount) ⌝ }
 {
-    let mut place = 0;
+    let mut place = at;
     let mut i = 0;
     while i < LINES {
         place = put_line(i, writing::size(words[i]), out, place);
@@ -368,7 +177,7 @@ fn write_accepted(s: Settings, out: &mut [u8]) -> Wrote
     ensures { λ r. ⌜ (r ≡ wrote s (length (now (out .entry)))) × (now (out .exit) ≡ sheetIn s (now (out .entry))) ⌝ }
 {
     let mut sheet: [u8; ROOM] = [0; ROOM];
-    let place = put_lines(settings::words_of(s), &mut sheet);
+    let place = put_lines(settings::words_of(s), &mut sheet, 0);
     if out.len() < place {
         return Wrote::Short;
     }

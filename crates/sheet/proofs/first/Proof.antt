@@ -8,7 +8,8 @@ use lib.Seq.{length-take-le}
 use denote.Ref.{now}
 use Rattle.settings.specs.Words.{entryAt}
 use Rattle.sheet.specs.Sheet.{lineOf}
-use Rattle.sheet.proofs.CodeLaws.{before-take, first-with, first-without}
+use Rattle.values.proofs.CodeLaws.{before-take}
+use Rattle.sheet.proofs.CodeLaws.{first-with, first-without}
 use borrow.Author.Needs.{needs}
 use Rattle.sheet.proofs.first.Statement.{statement}
 use Rattle.sheet.proofs.first.Tie as tie

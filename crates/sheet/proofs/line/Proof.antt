@@ -2,16 +2,16 @@
 -- Assumes nothing.
 use borrow.Author.Needs.{needs}
 use mathlib.Core.Path.{_≡_, ap, ap₂, sym, _∙_}
-use mathlib.Core.Bool.{Bool}
 use mathlib.Core.List.{List}
 use Prim.Native.Nat.{ℕ, _≤_}
 use native.Mathlib.Omega.{arith}
 use lib.ListN.{length, drop}
 use denote.Ref.{now}
 use Rattle.settings.specs.Words.{entryAt, key}
-use Rattle.sheet.specs.Value.{numberOf}
+use Rattle.values.specs.Value.{numberOf}
 use Rattle.sheet.specs.Sheet.{starts}
-use Rattle.sheet.proofs.CodeLaws.{line-good, line-other, starts-long, key-short, Stands, stands, rest-part}
+use Rattle.sheet.proofs.CodeLaws.{line-good, line-other, starts-long, key-short, Stands, stands}
+use Rattle.values.proofs.CodeLaws.{rest-part}
 use Rattle.sheet.proofs.line.Statement.{statement}
 use Rattle.sheet.proofs.line.Tie as tie
 

@@ -6,15 +6,15 @@ use Prim.Native.Nat.{ℕ, _+_, _-_, _≤_}
 use native.Mathlib.Omega.{arith}
 use mathlib.Core.List.{List}
 use lib.ListN.{length, drop}
-use Rattle.sheet.specs.declared.Number.the-variants.{Is}
+use Rattle.values.specs.declared.Number.the-variants.{Is}
 use denote.Ref.{now}
 use mir.Syntax.{w32}
 use Rattle.fixed.proofs.Reading.{answer}
 use Rattle.sheet.specs.declared.Found.the-variants.{Good}
-use Rattle.sheet.specs.Value.{before}
+use Rattle.values.specs.Value.{before}
 use Rattle.settings.specs.Words.{size as lineCount, entryAt}
 use Rattle.sheet.specs.Sheet.{firstOf}
-use Rattle.sheet.proofs.CodeLaws.{rest-part}
+use Rattle.values.proofs.CodeLaws.{rest-part}
 use Rattle.sheet.proofs.Walking.{Walking, walking-start, walking-inside, walking-more, walking-wrong, walking-over, walking-end, word-small}
 use Rattle.sheet.proofs.lines.Statement.{statement}
 use Rattle.sheet.proofs.lines.Tie as tie

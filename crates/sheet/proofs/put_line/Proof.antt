@@ -2,10 +2,10 @@
 -- Assumes nothing.
 use lib.Seq.{length-take-le}
 use Rattle.writing.proofs.TextLaws.{put, put-then}
-use Rattle.sheet.specs.Value.{valueText}
+use Rattle.values.specs.Value.{valueText}
 use Rattle.settings.specs.Words.{entryAt}
 use Rattle.sheet.proofs.CodeLaws.{Stands, stands, line-as, key-short}
-use Rattle.sheet.proofs.Putting.{named, value-length}
+use Rattle.values.proofs.Putting.{named, value-length}
 use mathlib.Core.Path.{sym}
 use Prim.Native.Nat.{_≤_}
 use native.Mathlib.Omega.{arith}

@@ -17,13 +17,13 @@ use Rattle.sheet.proofs.put_lines.Statement.{statement}
 use Rattle.sheet.proofs.put_lines.Tie as tie
 
 abbrev Inv-loop : tie.InvT-loop
-Inv-loop out₀ words place₀ i₀ out place i = Writing words out₀ out place i
+Inv-loop out₀ at words place₀ i₀ out place i = Writing words out₀ at out place i
 
 abbrev μ-loop : tie.MeasureT-loop
-μ-loop out₀ words place₀ i₀ out place i = lineCount - i
+μ-loop out₀ at words place₀ i₀ out place i = lineCount - i
 
 loop-holds : tie.Need-loop-holds Inv-loop μ-loop
-loop-holds c = writing-start (c .before .args .t1) (now (c .before .args .out)) (c .before .good .0 .1 .0 .1) (c .before .pre)
+loop-holds c = writing-start (c .before .args .t1) (now (c .before .args .out)) (c .before .args .at) (c .before .good .0 .1 .0 .1) (c .before .pre)
 
 put-line-requires : tie.Need-put-line-requires Inv-loop μ-loop
 put-line-requires c κs =

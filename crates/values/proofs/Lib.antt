@@ -1,0 +1,4 @@
+pub mod ValueLaws
+pub mod CodeLaws
+pub mod Putting
+pub mod Cases
