@@ -176,21 +176,24 @@ def random_bytes(random, most=65536):
     return random.getrandbits(8 * most).to_bytes(most, 'big')[:random.randint(0, most)]
 
 
-def any_sheet(random):
-    sort = random.randrange(2000)
+def whole_sheet(random):
+    """A sheet without damage at a random place: a good one, a refused one, one that goes on, or, now and then, random bytes."""
+    sort = random.randrange(500)
     if sort < 200:
         return good_sheet(random)
     if sort < 400:
         return refused_sheet(random)
-    if sort < 440:
-        return long_sheet(random)
-    return random_bytes(random) if sort == 440 else damaged_sheet(random)
+    return random_bytes(random) if sort == 400 else long_sheet(random)
+
+
+def any_sheet(random):
+    return whole_sheet(random) if random.randrange(5) == 0 else damaged_sheet(random)
 
 
 def random_sheets(wanted, seed):
-    """So many texts, the same ones for the same seed."""
+    """So many texts with damage at random places and a quarter as many without, the same ones for the same seed."""
     random = Random(seed)
-    return [any_sheet(random) for _ in range(wanted)]
+    return [damaged_sheet(random) for _ in range(wanted)] + [whole_sheet(random) for _ in range(wanted // 4)]
 
 
 # For tests/sheets.c

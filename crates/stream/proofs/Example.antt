@@ -1,4 +1,4 @@
--- The example of docs/RULES.md, "The program": of its three lines the definition says, byte for byte, what stands there.
+-- The example of docs/RULES.md, "The program run_rows": of its three lines the definition says, byte for byte, what stands there.
 -- Assumes nothing.
 use mathlib.Core.Path.{_≡_, refl, _∙_, ap}
 use mathlib.Core.Bool.{false}

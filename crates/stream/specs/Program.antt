@@ -1,4 +1,4 @@
--- What the program writes for an input, from the first byte to the last (docs/RULES.md, "The program").
+-- What the program writes for an input, from the first byte to the last (docs/RULES.md, "The program run_rows").
 use Prim.Native.Nat.{ℕ, _*_}
 use mathlib.Core.Bool.{Bool, cond}
 use mathlib.Core.List.{List, [], _∷_, _++_}

@@ -36,7 +36,7 @@ CountsExact = (d : Drive) (input : List ℕ) → length input < 1844674407370955
     (heldCount (length rows) ≡ length rows) × (oneMore (length rows) ≡ length rows + 1)
     × (heldCount (ran .accepted) ≡ ran .accepted) × (heldCount (ran .clipped) ≡ ran .clipped)
 
--- ════ the example of docs/RULES.md, "The program"
+-- ════ the example of docs/RULES.md, "The program run_rows"
 -- `0 0 0`, `9000 0 0`, `0 0 0`
 abbrev pub input : List ℕ
 input =
