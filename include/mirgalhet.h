@@ -87,7 +87,7 @@
 extern "C" {
 #endif
 
-/* The numbers of docs/RULES.md, "Numbers handed back". 9 is a run's, which has no function here; 11, 12, 13, 15 and 16 are free. */
+/* The numbers of docs/RULES.md, "Numbers handed back". 9 is a run's, which has no function here; 11 to 13 are free. */
 enum mirgalhet_number {
     MIRGALHET_ACCEPTED = 0,
     MIRGALHET_PERIOD = 1,       /* start, read, write: T out of range */

@@ -1,2 +1,4 @@
 pub mod Laws
 pub mod Cases
+pub mod Early
+pub mod Promises

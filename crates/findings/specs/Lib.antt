@@ -1,2 +1,3 @@
 pub mod Phrases
 pub mod Findings
+pub mod Promised

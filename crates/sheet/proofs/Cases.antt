@@ -12,8 +12,10 @@ use Rattle.text.specs.Grammar.{allDigits, valueOf}
 use Rattle.writing.specs.Decimal.{decimal, countText}
 use Rattle.sheet.specs.declared.Outcome.{Outcome}
 use Rattle.sheet.specs.declared.Outcome.the-variants.{Read, Refused, Faulty}
-use Rattle.values.specs.Value.{fractionDigits, fractionText, gainText, valueText, digitsOf, zeroInFront, wholeOf, zeroBehind, thsOf, fractionOf, before, sum, gainOf, numberOf}
-use Rattle.sheet.specs.Sheet.{lineText, linesText, sheetText, starts, lineOf, firstOf, andThen, withFirst, readLines, settingsIn, linesOf, judged, outcome, readSheet}
+use Rattle.values.specs.Value.{fractionDigits, fractionText, gainText, valueText}
+use Rattle.values.specs.Value.{digitsOf, zeroInFront, wholeOf, zeroBehind, thsOf, fractionOf, before, sum, gainOf, numberOf}
+use Rattle.sheet.specs.Sheet.{lineText, linesText, sheetText}
+use Rattle.sheet.specs.Sheet.{starts, lineOf, firstOf, andThen, withFirst, readLines, settingsIn, linesOf, judged, outcome, readSheet}
 
 -- ════ sheets
 -- the bench set
@@ -39,7 +41,9 @@ bench-written : sheetText benchSettings ≡ sheet
 unfolding sheet benchSettings sheetText entries wordsOf linesText lineText valueText gainText countText decimal fractionText fractionDigits
 bench-written = refl
 
--- the bench set; nothing; no line feed behind the last line; sKcor is missing; R is missing; sKcor stands twice; Q in front of V; an empty line behind the last; a carriage return; the comma; two faulty lines: the first is named; T is 99999, which is a whole number; sKp is 0; sKp is 1, which sKi does not fit; V is 0; R is 0
+-- the bench set; nothing; no line feed behind the last line; sKcor is missing; R is missing; sKcor stands twice; Q in front of V; an empty line behind
+-- the last; a carriage return; the comma; two faulty lines: the first is named; T is 99999, which is a whole number; sKp is 0; sKp is 1, which sKi does
+-- not fit; V is 0; R is 0
 sheets : List (List ℕ)
 sheets =
     sheet
@@ -81,5 +85,7 @@ outcomes =
     ∷ []
 
 sheets-read : map readSheet sheets ≡ outcomes
-unfolding sheets outcomes sheet readSheet linesOf settingsIn readLines entries firstOf lineOf starts withFirst andThen outcome judged settingsOf accepted refusal periodOk gainsOk gainOk gainsTied tied limitsOk restOk numberOf gainOf wholeOf fractionOf digitsOf zeroInFront zeroBehind thsOf sum before allDigits valueOf benchSettings
+unfolding sheets outcomes sheet readSheet linesOf settingsIn readLines entries firstOf lineOf starts withFirst andThen outcome judged settingsOf
+    accepted refusal periodOk gainsOk gainOk gainsTied tied limitsOk restOk benchSettings
+    numberOf gainOf wholeOf fractionOf digitsOf zeroInFront zeroBehind thsOf sum before allDigits valueOf
 sheets-read = refl

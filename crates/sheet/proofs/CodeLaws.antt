@@ -1,7 +1,7 @@
--- What the loops of the code stand on.
+-- What the code that reads and writes a line stands on: the key in front, the code's form of an entry, a line as it is written, and judged settings.
 -- Assumes nothing.
 use mathlib.Core.Path.{_≡_, refl, ap, sym, _∙_}
-use mathlib.Core.Bool.{Bool, true, false, _&&_, true≢false}
+use mathlib.Core.Bool.{Bool, true, false, _&&_, true≢false, and-false}
 use mathlib.Core.List.{List, [], _∷_, _++_, append-assoc}
 use mathlib.Core.Logic.{⊎-elim}
 use Prim.Native.Nat.{ℕ, zero, suc, _+_, _-_, _≤_, _<_}
@@ -64,11 +64,7 @@ pub starts-short : (ns s : List ℕ) → length s < length ns → false ≡ star
 unfolding starts
 starts-short [] s h = absurd (omega (arith, h))
 starts-short (n ∷ ns) [] h = refl
-starts-short (n ∷ ns) (c ∷ s) h = by (eqb n c) ∙ ap (λ (t : Bool). eqb n c && t) (starts-short ns s (omega (arith, h)))
-  where
-    by : (t : Bool) → false ≡ (t && false)
-    by true = refl
-    by false = refl
+starts-short (n ∷ ns) (c ∷ s) h = sym (and-false (eqb n c)) ∙ ap (λ (t : Bool). eqb n c && t) (starts-short ns s (omega (arith, h)))
 
 -- and so a text that begins with them is as long
 pub starts-long : (ns s : List ℕ) → starts ns s ≡ true → length ns ≤ length s
@@ -118,9 +114,13 @@ short-at [] d i t h = absurd (omega (arith, h))
 short-at (e ∷ es) d zero t h = leb-true (length (key e)) 6 (and-left (leb (length (key e)) 6) (short es) t)
 short-at (e ∷ es) d (suc i) t h = short-at es d i (and-right (leb (length (key e)) 6) (short es) t) (omega (arith, h))
 
-pub key-short : (i : ℕ) → i < lineCount → length (key (entryAt i)) ≤ 6
+pub own-short : short entries ≡ true
 unfolding short entries
-key-short i h = short-at entries _ i refl h
+own-short = refl
+
+pub key-short : (i : ℕ) → i < lineCount → length (key (entryAt i)) ≤ 6
+unfolding entries
+key-short i h = short-at entries _ i own-short h
 
 pub first-with : (e : Entry) (s : List ℕ) → length (before 10 s) < length s → lineOf e (before 10 s) ≡ firstOf e s
 unfolding firstOf

@@ -1,23 +1,20 @@
 -- The promises of specs/Promised hold.
 -- Assumes nothing.
 use mathlib.Core.Path.{_≡_, refl, ap, sym, _∙_}
-use mathlib.Core.Bool.{Bool, true, false, cond}
+use mathlib.Core.Bool.{true}
 use mathlib.Core.List.{List}
 use Prim.Native.Nat.{ℕ, _+_, _≤_}
-use native.Mathlib.Omega.{arith}
-use borrow.Author.Tests.{leb-true, le-leb}
-use lib.Dec.{leb}
+use native.Mathlib.Nat.{zero-add}
+use borrow.Author.Tests.{le-leb}
 use lib.IntN.{pos}
 use lib.ListN.{length, take, drop}
 use lib.Seq.{drop-at}
-use Rattle.fixed.proofs.Choice.{by-test}
 use Rattle.settings.specs.declared.Settings.{Settings}
 use Rattle.settings.specs.Settings.{accepted, refusal, periodOk}
 use Rattle.settings.specs.Words.{settingsOf}
 use Rattle.writing.specs.Decimal.{written}
 use Rattle.sheet.specs.declared.Outcome.the-variants.{Read, Refused, Faulty}
-use Rattle.sheet.specs.declared.Wrote.the-variants.{Length, Barred, Short}
-use Rattle.sheet.specs.Sheet.{sheetText, readSheet, wrote, sheetIn}
+use Rattle.sheet.specs.Sheet.{sheetText, readSheet, sheetIn}
 use Rattle.sheet.specs.Calls.{noSettings, readingOf}
 use Rattle.sheet.specs.Promised as is
 use Rattle.values.proofs.ValueLaws as value
@@ -63,32 +60,17 @@ pub short-leaves : is.ShortLeaves
 short-leaves = law.untouched
 
 -- ════ a length
-fits : (s : Settings) (room n : ℕ) → wrote s room ≡ Length n → (accepted s ≡ true) × (length (sheetText s) ≤ room) × (n ≡ length (sheetText s))
-unfolding wrote
-fits s room n e = by (accepted s) refl e
-  where
-    by : (b : Bool) → accepted s ≡ b → cond b (cond (leb (length (sheetText s)) room) (Length (length (sheetText s))) Short) (Barred (refusal s)) ≡ Length n
-        → (accepted s ≡ true) × (length (sheetText s) ≤ room) × (n ≡ length (sheetText s))
-    by true a e =
-        by-test (leb (length (sheetText s)) room)
-        (λ t. let g = rw t at e in let z : length (sheetText s) ≡ n = cc in (a, leb-true (length (sheetText s)) room t, sym z))
-        (λ t. let g = rw t at e in let z : _≡_ {A = ℕ} 0 1 = cc in absurd (omega arith))
-    by false a e = let z : _≡_ {A = ℕ} 0 1 = cc in absurd (omega arith)
-
 whole : (s : Settings) (out : List ℕ) → accepted s ≡ true → length (sheetText s) ≤ length out → sheetIn s out ≡ written out 0 (sheetText s)
 unfolding sheetIn
 whole s out a h = rw (a, le-leb (length (sheetText s)) (length out) h) refl
 
 behind : (o bs : List ℕ) → drop (length bs) (written o 0 bs) ≡ drop (length bs) o
 unfolding written
-behind o bs = drop-at bs (drop (0 + length bs) o) (length bs) refl ∙ ap (λ (n : ℕ). drop n o) (plain (length bs))
-  where
-    plain : (n : ℕ) → 0 + n ≡ n
-    plain n = omega arith
+behind o bs = drop-at bs (drop (0 + length bs) o) (length bs) refl ∙ ap (λ (n : ℕ). drop n o) (zero-add (length bs))
 
 pub written-stands : is.WrittenStands
 written-stands s out n e =
-    let f = fits s (length out) n e in
+    let f = sizes.fits s (length out) n e in
     let w = whole s out (f .0) (f .1) in
     let t : take n (sheetIn s out) ≡ sheetText s = rw (f .2, w) (front out (sheetText s)) in
     record {

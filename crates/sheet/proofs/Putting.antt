@@ -1,9 +1,10 @@
--- Writing a sheet: the digits behind a point, a value, a line, all lines.
+-- Writing a sheet: all lines one after another, and what is answered and stands in the buffer.
 -- Assumes nothing.
 use mathlib.Core.Path.{_≡_, refl, ap, ap₂, sym, _∙_}
 use mathlib.Core.Bool.{true, false}
 use mathlib.Core.List.{List, [], _∷_, _++_, append-assoc, append-nil}
 use Prim.Native.Nat.{ℕ, _+_, _*_, _≤_, _<_}
+use native.Mathlib.Nat.{zero-add}
 use native.Mathlib.Numerals.{add-one}
 use native.Mathlib.Omega.{arith}
 use borrow.Author.Tests.{le-leb, lt-leb}
@@ -100,10 +101,9 @@ module _ (s : Settings) (out : List ℕ) where
   unfolding wrote sheetIn
   too-short a h = let t = lt-leb (length (sheetText s)) (length out) h in (simp (a, t), simp (a, t))
 
-  pub in-full : {end : List ℕ} {n : ℕ} → accepted s ≡ true → length (sheetText s) ≤ length out → n ≡ 0 + length (sheetText s) → end ≡ written out 0 (sheetText s) →
-      (Length n ≡ wrote s (length out)) × (end ≡ sheetIn s out)
+  pub in-full : {end : List ℕ} {n : ℕ} → accepted s ≡ true → length (sheetText s) ≤ length out → n ≡ 0 + length (sheetText s)
+      → end ≡ written out 0 (sheetText s) → (Length n ≡ wrote s (length out)) × (end ≡ sheetIn s out)
   unfolding wrote sheetIn
   in-full a h e f =
       let t = le-leb (length (sheetText s)) (length out) h in
-      let z : 0 + length (sheetText s) ≡ length (sheetText s) = omega arith in
-      (rw (a, t) (ap Length (e ∙ z)), rw (a, t) f)
+      (rw (a, t) (ap Length (e ∙ zero-add (length (sheetText s)))), rw (a, t) f)

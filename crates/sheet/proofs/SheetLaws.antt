@@ -1,7 +1,8 @@
--- The sheet: what is written is read back, what is read is what is written, which line is the first faulty one, and no text with a comma is read.
+-- The sheet: what is written is read back, what is read is what is written, which line is the first faulty one, no text with a comma is read, and when a
+-- buffer is too short.
 -- Assumes nothing.
 use mathlib.Core.Path.{_≡_, refl, ap, ap₂, sym, _∙_, subst}
-use mathlib.Core.Bool.{Bool, true, false, not, _&&_, true≢false, cond}
+use mathlib.Core.Bool.{Bool, true, false, not, _&&_, true≢false, and-false, cond}
 use mathlib.Core.List.{List, [], _∷_, _++_, append-assoc}
 use mathlib.Core.Logic.{_↔_, ⊎-elim}
 use Prim.Native.Nat.{ℕ, suc, _+_, _<_}
@@ -25,9 +26,9 @@ use Rattle.values.specs.declared.Number.{Number}
 use Rattle.values.specs.declared.Number.the-variants.{Is, Wrong}
 use Rattle.sheet.specs.declared.Outcome.the-variants.{Read, Refused, Faulty}
 use Rattle.sheet.specs.declared.Wrote.the-variants.{Length, Short}
-use Rattle.values.specs.Value.{valueText, before, has, behind}
-use Rattle.sheet.specs.Sheet.{lineText, linesText, sheetText, starts, lineOf, firstOf, Words, words, faulty, andThen, withFirst, readLines, settingsIn, linesOf, judged, outcome, readSheet, wrote, sheetIn}
-use Rattle.values.specs.Value.{top}
+use Rattle.values.specs.Value.{top, valueText, before, has, behind}
+use Rattle.sheet.specs.Sheet.{lineText, linesText, sheetText, starts, lineOf, firstOf, Words, words, faulty, andThen, withFirst, readLines}
+use Rattle.sheet.specs.Sheet.{settingsIn, linesOf, judged, outcome, readSheet, wrote, sheetIn}
 use Rattle.sheet.specs.Faults.{FirstFault, over, here, later}
 use Rattle.values.proofs.ValueLaws.{is-wrong, only-if, free, free-both, before-at, has-at, behind-at, split, value-top, value-only, value-back, value-free}
 
@@ -155,8 +156,8 @@ first-top e bs w h =
     value-top (e .gain) (drop (length (key e)) (before 10 bs)) w (u .1)
 
 -- what the first line makes of the others
-fault-by : (i j : ℕ) (e : Entry) (es : List Entry) (bs : List ℕ) → free 10 (e .name) ≡ true → (x : Number) → firstOf e bs ≡ x → (ls : Words) → withFirst i x ls ≡ faulty j →
-    (ls ≡ faulty j → FirstFault (i + 1) es (behind 10 bs) j) → FirstFault i (e ∷ es) bs j
+fault-by : (i j : ℕ) (e : Entry) (es : List Entry) (bs : List ℕ) → free 10 (e .name) ≡ true → (x : Number) → firstOf e bs ≡ x
+    → (ls : Words) → withFirst i x ls ≡ faulty j → (ls ≡ faulty j → FirstFault (i + 1) es (behind 10 bs) j) → FirstFault i (e ∷ es) bs j
 unfolding withFirst andThen
 fault-by i j e es bs n Wrong f ls h k =
     let z : i ≡ j = cc in
@@ -231,7 +232,7 @@ pub record Came (bs : List ℕ) (s : Settings) : Type 0 where
   pub accepts : accepted s ≡ true
   pub text : bs ≡ sheetText s
 
-judged→ : (r s : Settings) → judged r ≡ Read s → (accepted r ≡ true) × (r ≡ s)
+pub judged→ : (r s : Settings) → judged r ≡ Read s → (accepted r ≡ true) × (r ≡ s)
 unfolding judged
 judged→ r s e =
     ⊎-elim (λ t. (t, let g = rw t at e in cc))
@@ -250,7 +251,7 @@ sheet-only bs s e =
     let j = judged→ (settingsOf (r .0)) s (r .2) in
     record { accepts = sym (ap accepted (j .1)) ∙ j .0; text = lines-text bs (r .1) ∙ ap sheetText (j .1) }
 
-judged-refused : (s : Settings) (n : ℤ) → judged s ≡ Refused n → (accepted s ≡ false) × (refusal s ≡ n)
+pub judged-refused : (s : Settings) (n : ℤ) → judged s ≡ Refused n → (accepted s ≡ false) × (refusal s ≡ n)
 unfolding judged
 judged-refused s n e =
     ⊎-elim (λ t. let g = rw t at e in let z : _≡_ {A = ℕ} 0 1 = cc in absurd (omega arith))
@@ -280,18 +281,15 @@ free-lines b h n [] zs p = refl
 free-lines b h n (e ∷ es) [] p = refl
 free-lines b h n (e ∷ es) (z ∷ zs) p =
     let v = valueText (e .gain) (natAbs z) in
+    let l = free-line b e (natAbs z) h (and-left (free b (e .name)) (plain b es) p) in
     free-both b (lineText e (natAbs z)) (linesText es zs)
-    (rw (sym (append-assoc (key e) v (10 ∷ []))) (free-both b (key e ++ v) (10 ∷ []) (free-line b e (natAbs z) h (and-left (free b (e .name)) (plain b es) p)) (free-feed b n)))
+    (rw (sym (append-assoc (key e) v (10 ∷ []))) (free-both b (key e ++ v) (10 ∷ []) l (free-feed b n)))
     (free-lines b h n es zs (and-right (free b (e .name)) (plain b es) p))
 
 not-free : (b : ℕ) (xs ys : List ℕ) → free b (xs ++ (b ∷ ys)) ≡ false
 unfolding free
 not-free b [] ys = rw (eq-eqb b b refl) refl
-not-free b (x ∷ xs) ys = rw (not-free b xs ys) (by (not (eqb x b)))
-  where
-    by : (t : Bool) → (t && false) ≡ false
-    by true = refl
-    by false = refl
+not-free b (x ∷ xs) ys = rw (not-free b xs ys) (and-false (not (eqb x b)))
 
 -- a text with a comma (44) anywhere has a faulty line
 pub comma-faulty : (xs ys : List ℕ) → (j : ℕ) × (readSheet (xs ++ (44 ∷ ys)) ≡ Faulty j)
@@ -305,7 +303,7 @@ comma-faulty xs ys = by (readLines 1 entries (xs ++ (44 ∷ ys))) refl
     by (words zs) e = absurd (true≢false (sym (sheet-free zs) ∙ sym (ap (free 44) (lines-only 1 entries (xs ++ (44 ∷ ys)) e .text)) ∙ not-free 44 xs ys))
     by (faulty j) e = (j, refl)
 
-judged-number : (s : Settings) (j : ℕ) → judged s ≡ Faulty j → ⊥
+pub judged-number : (s : Settings) (j : ℕ) → judged s ≡ Faulty j → ⊥
 unfolding judged
 judged-number s j e =
     ⊎-elim (λ t. let g = rw t at e in let z : _≡_ {A = ℕ} 0 1 = cc in omega arith)
@@ -335,11 +333,15 @@ not-short : (s : Settings) (n : ℕ) → accepted s ≡ false → wrote s n ≡ 
 unfolding wrote
 not-short s n a e = let g = rw a at e in let z : _≡_ {A = ℕ} 0 1 = cc in omega arith
 
+short-less : (s : Settings) (n : ℕ) → accepted s ≡ true → wrote s n ≡ Short → n < length (sheetText s)
+short-less s n a e =
+    ⊎-elim (λ t. let g = sym (wrote-as s n a) ∙ e in let h = rw t at g in let z : _≡_ {A = ℕ} 0 1 = cc in absurd (omega arith))
+    (λ t. leb-false (length (sheetText s)) n t)
+    (true-or-false (leb (length (sheetText s)) n))
+
 pub short-exactly : (s : Settings) (n : ℕ) → (wrote s n ≡ Short) ↔ ((accepted s ≡ true) × (n < length (sheetText s)))
 short-exactly s n = (
-  λ e. ⊎-elim (λ a. (a, ⊎-elim (λ t. let g = sym (wrote-as s n a) ∙ e in let h = rw t at g in let z : _≡_ {A = ℕ} 0 1 = cc in absurd (omega arith)) (λ t. leb-false (length (sheetText s)) n t) (true-or-false (leb (length (sheetText s)) n))))
-      (λ a. absurd (not-short s n a e))
-      (true-or-false (accepted s)),
+  λ e. ⊎-elim (λ a. (a, short-less s n a e)) (λ a. absurd (not-short s n a e)) (true-or-false (accepted s)),
   λ h. wrote-as s n (h .0) ∙ rw (lt-leb (length (sheetText s)) n (h .1)) refl,
 )
 

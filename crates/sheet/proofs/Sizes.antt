@@ -1,6 +1,6 @@
--- How large a faulty line's number can be, and how long the sheet of accepted settings.
+-- How large a faulty line's number can be, how long the sheet of accepted settings, and what an answered length says.
 -- Assumes nothing.
-use mathlib.Core.Path.{_≡_, refl}
+use mathlib.Core.Path.{_≡_, refl, sym}
 use mathlib.Core.Bool.{Bool, true, false, cond, _&&_}
 use mathlib.Core.List.{List, [], _∷_}
 use Prim.Native.Nat.{ℕ, suc, _+_, _/_, _%_, _≤_}
@@ -38,7 +38,7 @@ by-first i n j Wrong ls e f = let z : i ≡ j = cc in (omega (arith, z), omega (
 by-first i n j (Is w) (words zs) e f = absurd (no-fault e)
 by-first i n j (Is w) (faulty m) e f = let h = f e in (omega (arith, h .0), omega (arith, h .1))
 
-fault-most : (i j : ℕ) (es : List Entry) (bs : List ℕ) → readLines i es bs ≡ faulty j → (i ≤ j) × (j ≤ i + length es)
+pub fault-most : (i j : ℕ) (es : List Entry) (bs : List ℕ) → readLines i es bs ≡ faulty j → (i ≤ j) × (j ≤ i + length es)
 unfolding readLines
 fault-most i j [] [] e = absurd (no-fault e)
 fault-most i j [] (b ∷ bs) e = let z : i ≡ j = cc in (omega (arith, z), omega (arith, z))
@@ -96,13 +96,18 @@ pub sheet-most : (s : Settings) → accepted s ≡ true → length (sheetText s)
 unfolding sheetText narrow mostOf valueMost entries
 sheet-most s a = lines-most entries (wordsOf s) refl (all-in s a)
 
-pub length-most : (s : Settings) (room n : ℕ) → wrote s room ≡ Length n → n ≤ 187
+-- a length that is answered is the sheet's
+pub fits : (s : Settings) (room n : ℕ) → wrote s room ≡ Length n → (accepted s ≡ true) × (length (sheetText s) ≤ room) × (n ≡ length (sheetText s))
 unfolding wrote
-length-most s room n e = by (accepted s) refl e
+fits s room n e = by (accepted s) refl e
   where
-    by : (b : Bool) → accepted s ≡ b → cond b (cond (leb (length (sheetText s)) room) (Length (length (sheetText s))) Short) (Barred (refusal s)) ≡ Length n → n ≤ 187
+    by : (b : Bool) → accepted s ≡ b → cond b (cond (leb (length (sheetText s)) room) (Length (length (sheetText s))) Short) (Barred (refusal s)) ≡ Length n
+        → (accepted s ≡ true) × (length (sheetText s) ≤ room) × (n ≡ length (sheetText s))
     by true a e =
         by-test (leb (length (sheetText s)) room)
-        (λ t. let g = rw t at e in let z : length (sheetText s) ≡ n = cc in omega (arith, z, sheet-most s a))
+        (λ t. let g = rw t at e in let z : length (sheetText s) ≡ n = cc in (a, leb-true (length (sheetText s)) room t, sym z))
         (λ t. let g = rw t at e in let z : _≡_ {A = ℕ} 0 1 = cc in absurd (omega arith))
     by false a e = let z : _≡_ {A = ℕ} 0 1 = cc in absurd (omega arith)
+
+pub length-most : (s : Settings) (room n : ℕ) → wrote s room ≡ Length n → n ≤ 187
+length-most s room n e = let f = fits s room n e in omega (arith, f .2, sheet-most s (f .0))

@@ -14,9 +14,8 @@ use Rattle.values.specs.declared.Number.{Number}
 use Rattle.values.specs.declared.Number.the-variants.{Is, Wrong}
 use Rattle.sheet.specs.declared.Found.the-variants.{Good, Bad}
 use Rattle.settings.specs.Words.{entries, noEntry, entryAt, size as lineCount, settingsOf}
-use Rattle.values.specs.Value.{before, has, behind}
+use Rattle.values.specs.Value.{top, before, has, behind}
 use Rattle.sheet.specs.Sheet.{firstOf, Words, words, faulty, andThen, withFirst, readLines, settingsIn, linesOf}
-use Rattle.values.specs.Value.{top}
 use Rattle.values.proofs.ValueLaws.{only-if}
 use Rattle.sheet.proofs.SheetLaws.{first-top, count-entries}
 

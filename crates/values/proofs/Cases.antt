@@ -57,7 +57,9 @@ gains-texts =
     ∷ []
 
 gains-numbers : List Number
-gains-numbers = Is 0 ∷ Is 8192 ∷ Is 2048 ∷ Is 1 ∷ Is 409599999 ∷ Wrong ∷ Wrong ∷ Wrong ∷ Wrong ∷ Wrong ∷ Wrong ∷ Wrong ∷ Wrong ∷ Wrong ∷ Wrong ∷ Wrong ∷ Wrong ∷ Wrong ∷ Wrong ∷ []
+gains-numbers =
+    Is 0 ∷ Is 8192 ∷ Is 2048 ∷ Is 1 ∷ Is 409599999
+    ∷ Wrong ∷ Wrong ∷ Wrong ∷ Wrong ∷ Wrong ∷ Wrong ∷ Wrong ∷ Wrong ∷ Wrong ∷ Wrong ∷ Wrong ∷ Wrong ∷ Wrong ∷ Wrong ∷ []
 
 -- 0; 2; 0.5; 0.000244140625; 99999.999755859375; 0.0001; 1.0; 1.50; 1.; .5; .; 1,25; 1,250; 1.5.5; 00.5; -0.5; +0.5; 0.0001220703125; 100000.5
 gains : map gainOf gains-texts ≡ gains-numbers

@@ -1,23 +1,22 @@
--- What the loops of the code stand on.
+-- What the code that reads a value stands on: finding a byte, digits, whole numbers, the digits behind a point, gains.
 -- Assumes nothing.
 use mathlib.Core.Path.{_≡_, refl, ap, sym, _∙_}
-use mathlib.Core.Bool.{Bool, true, false, cond, _&&_}
+use mathlib.Core.Bool.{Bool, true, false, cond, _&&_, and-false}
 use mathlib.Core.List.{List, [], _∷_}
 use mathlib.Core.Logic.{⊎-elim}
 use Prim.Native.Nat.{ℕ, suc, _+_, _-_, _*_, _/_, _%_, _^_, _≤_, _<_}
 use native.Mathlib.Nat.{pow-suc}
 use native.Mathlib.Numerals.{add-one}
 use native.Mathlib.Omega.{arith}
-use borrow.Author.Tests.{leb-true, lt-ltb, le-ltb, le-leb, lt-leb, ne-eqb, eq-eqb}
-use lib.Dec.{eqb, ltb, leb}
+use borrow.Author.Tests.{lt-ltb, le-ltb, le-leb, lt-leb, ne-eqb, eq-eqb}
+use lib.Dec.{eqb, ltb}
 use lib.ListN.{length, getD, take, drop, length-drop, drop-of-length-le}
 use lib.Seq.{drop-cons, take-all}
-use Rattle.fixed.proofs.HeldLaws.{and-right}
 use Rattle.text.specs.Grammar.{isDigit, allDigits, valueOf}
 use Rattle.values.specs.declared.Number.the-variants.{Is, Wrong}
 use Rattle.values.specs.Value.{digitsOf, zeroInFront, wholeOf, zeroBehind, thsOf, fractionOf, before, behind, sum, Summands, gainOf}
 use Rattle.fixed.proofs.Choice.{true-or-false}
-use Rattle.values.proofs.ValueLaws.{power-most, digits→, value-less, whole-less, fraction→}
+use Rattle.values.proofs.ValueLaws.{digit-hi, power-most, digits→, value-less, whole-less, fraction→}
 
 -- ════ finding a byte
 pub before-past : (b : ℕ) (s : List ℕ) (i : ℕ) → length s ≤ i → before b (drop i s) ≡ []
@@ -66,7 +65,7 @@ module _ {s : List ℕ} {n v i : ℕ} (r : Reading s n v i) where
     few = r .few;
     good = good-here h ∙ ap (λ (t : Bool). t && allDigits (drop (i + 1) s)) d;
     worth = worth-here h;
-    less = rw (add-one i, pow-suc 10 i) (omega (arith, r .less, leb-true (getD s i 0) 57 (and-right (leb 48 (getD s i 0)) (leb (getD s i 0) 57) d)));
+    less = rw (add-one i, pow-suc 10 i) (omega (arith, r .less, digit-hi (getD s i 0) d));
   }
 
   pub reading-wrong : i < length s → isDigit (getD s i 0) ≡ false → Wrong ≡ digitsOf n s
@@ -85,11 +84,7 @@ too-few s n h = rw (le-ltb 0 (length s) (omega arith)) refl
 
 pub too-many : (s : List ℕ) (n : ℕ) → n < length s → Wrong ≡ digitsOf n s
 unfolding digitsOf
-too-many s n h = rw (lt-leb (length s) n h) (by (ltb 0 (length s)) (allDigits s))
-  where
-    by : (a b : Bool) → Wrong ≡ cond (a && false && b) (Is (valueOf 0 s)) Wrong
-    by true b = refl
-    by false b = refl
+too-many s n h = rw (lt-leb (length s) n h, and-false (ltb 0 (length s))) refl
 
 -- ════ whole numbers
 pub whole-short : (s : List ℕ) → length s < 2 → digitsOf 5 s ≡ wholeOf s

@@ -1,4 +1,4 @@
--- Writing a sheet: the digits behind a point, a value, a line, all lines.
+-- Writing a value: the digits behind a point, a text under another name, and how long a value is.
 -- Assumes nothing.
 use mathlib.Core.Path.{_≡_, refl, ap, ap₂, sym, _∙_}
 use mathlib.Core.Bool.{Bool, true, false}
@@ -50,7 +50,9 @@ module _ {f at rest place : ℕ} {o out : List ℕ} (s : Dividing f at o out res
   -- while something is left, digits are
   pub dividing-left : 0 < rest → 0 < s .k
   dividing-left h =
-      ⊎-elim (λ k. k) (λ k. let z : s .k ≡ 0 = omega arith in absurd (omega (arith, h, even-none rest (s .q) (s .small) (rw z at (s .even))))) (less-or-not 0 (s .k))
+      ⊎-elim (λ k. k)
+      (λ k. let z : s .k ≡ 0 = omega arith in absurd (omega (arith, h, even-none rest (s .q) (s .small) (rw z at (s .even)))))
+      (less-or-not 0 (s .k))
 
   pub dividing-room : 0 < rest → place < at + 12
   dividing-room h = omega (arith, dividing-left h, s .sum)
@@ -84,7 +86,8 @@ module _ {f at rest place : ℕ} {o out : List ℕ} (s : Dividing f at o out res
   pub dividing-end : rest ≤ 0 → (place ≡ at + length (fractionDigits 12 f)) × (out ≡ written o at (fractionDigits 12 f))
   dividing-end h =
       let z : rest ≡ 0 = omega arith in
-      let e : fractionDigits 12 f ≡ s .done = s .digits ∙ ap (λ (l : List ℕ). s .done ++ l) (ap (fractionDigits (s .k)) z ∙ none-left (s .k)) ∙ append-nil (s .done) in
+      let e : fractionDigits 12 f ≡ s .done =
+      s .digits ∙ ap (λ (l : List ℕ). s .done ++ l) (ap (fractionDigits (s .k)) z ∙ none-left (s .k)) ∙ append-nil (s .done) in
       (s .count ∙ ap (λ (l : List ℕ). at + length l) (sym e), s .wrote ∙ ap (written o at) (sym e))
 
 -- ════ a text under another name

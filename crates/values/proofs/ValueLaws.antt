@@ -1,11 +1,12 @@
 -- Values: what is written is read back, and what is read is what is written.
 -- Assumes nothing.
 use mathlib.Core.Path.{_≡_, refl, ap, ap₂, sym, _∙_}
-use mathlib.Core.Bool.{Bool, true, false, cond, not, _&&_}
+use mathlib.Core.Bool.{Bool, true, false, cond, not, _&&_, and-false}
 use mathlib.Core.List.{List, [], _∷_, _++_, append-assoc, append-nil}
 use mathlib.Core.Logic.{_↔_, ⊎-elim}
 use Prim.Native.Nat.{ℕ, zero, suc, _+_, _-_, _*_, _/_, _%_, _^_, _≤_, _<_}
-use native.Mathlib.Nat.{pow-suc, pow-le-pow-right, one-le-pow, mul-le-mul-right, le-of-mul-le-mul-right, lt-of-mul-lt-mul-right, mul-mod-left, mul-div-cancel, div-add-mod'}
+use native.Mathlib.Nat.{pow-suc, pow-le-pow-right, one-le-pow}
+use native.Mathlib.Nat.{mul-le-mul-right, le-of-mul-le-mul-right, lt-of-mul-lt-mul-right, mul-mod-left, mul-div-cancel, div-add-mod'}
 use native.Mathlib.Omega.{arith}
 use borrow.Author.Tests.{ltb-true, leb-true, eqb-true, eqb-false, lt-ltb, le-ltb, le-leb, ne-eqb, eq-eqb, not-true}
 use lib.Dec.{eqb, ltb, leb}
@@ -19,8 +20,8 @@ use Rattle.writing.proofs.DecimalLaws.{decimal-one, decimal-more, by-digits, de
 use Rattle.writing.proofs.RoundTrip.{count-digits as all-digits, count-value, count-some}
 use Rattle.values.specs.declared.Number.{Number}
 use Rattle.values.specs.declared.Number.the-variants.{Is, Wrong}
-use Rattle.values.specs.Value.{fractionDigits, fractionText, gainText, valueText, digitsOf, zeroInFront, wholeOf, zeroBehind, thsOf, fractionOf, before, has, behind, sum, gainOf, numberOf}
-use Rattle.values.specs.Value.{top}
+use Rattle.values.specs.Value.{top, fractionDigits, fractionText, gainText, valueText}
+use Rattle.values.specs.Value.{digitsOf, zeroInFront, wholeOf, zeroBehind, thsOf, fractionOf, before, has, behind, sum, gainOf, numberOf}
 
 -- ════ a number that a choice gives
 pub is-wrong : {v : ℕ} → Wrong ≡ Is v → ⊥
@@ -60,7 +61,7 @@ digits← n bs d = rw (lt-ltb 0 (length bs) (d .some), le-leb (length bs) n (d .
 digit-lo : (b : ℕ) → isDigit b ≡ true → 48 ≤ b
 digit-lo b d = leb-true 48 b (and-left (leb 48 b) (leb b 57) d)
 
-digit-hi : (b : ℕ) → isDigit b ≡ true → b ≤ 57
+pub digit-hi : (b : ℕ) → isDigit b ≡ true → b ≤ 57
 digit-hi b d = leb-true b 57 (and-right (leb 48 b) (leb b 57) d)
 
 -- ════ whole numbers
@@ -101,7 +102,10 @@ plain (b ∷ c ∷ cs) {v} z d =
     let r : digitOf (b - 48) ≡ b = omega arith in
     let first : 0 * 10 + (b - 48) ≡ b - 48 = omega arith in
     let s : k + length (c ∷ cs) ≡ 19 = omega (arith, d .most) in
-    sym (ap₂ decimal (sym s) (sym (d .value) ∙ ap (λ (x : ℕ). valueOf x (c ∷ cs)) first) ∙ decimal-behind k (b - 48) (c ∷ cs) m (and-right (isDigit b) (allDigits (c ∷ cs)) (d .all)) ∙ ap (λ (l : List ℕ). l ++ (c ∷ cs)) (decimal-one k (b - 48) (omega arith) ∙ ap (λ (x : ℕ). x ∷ []) r))
+    sym
+    (ap₂ decimal (sym s) (sym (d .value) ∙ ap (λ (x : ℕ). valueOf x (c ∷ cs)) first)
+    ∙ decimal-behind k (b - 48) (c ∷ cs) m (and-right (isDigit b) (allDigits (c ∷ cs)) (d .all))
+    ∙ ap (λ (l : List ℕ). l ++ (c ∷ cs)) (decimal-one k (b - 48) (omega arith) ∙ ap (λ (x : ℕ). x ∷ []) r))
 
 -- a whole number's text is the only one
 pub whole-only : (bs : List ℕ) {v : ℕ} → wholeOf bs ≡ Is v → bs ≡ countText v
@@ -124,12 +128,8 @@ no-zero : (n : ℕ) → n < 100000 → zeroInFront (countText n) ≡ false
 unfolding zeroInFront countText
 no-zero n h =
     ⊎-elim (λ s. rw (decimal-one 19 n s) refl)
-    (λ s. rw (ne-eqb (getD (decimal 19 n) 0 0) 48 (front 19 n (omega arith) (omega arith))) (and-no (ltb 1 (length (decimal 19 n)))))
+    (λ s. rw (ne-eqb (getD (decimal 19 n) 0 0) 48 (front 19 n (omega arith) (omega arith))) (and-false (ltb 1 (length (decimal 19 n)))))
     (less-or-not n 10)
-  where
-    and-no : (b : Bool) → (b && false) ≡ false
-    and-no true = refl
-    and-no false = refl
 
 pub count-digits : (n : ℕ) → n < 100000 → Digits 5 (countText n) n
 unfolding countText
@@ -270,7 +270,8 @@ fraction→ bs {f} e =
     let t = only-unless (eqb (getD bs (length bs - 1) 0) 48) e in
     let s = ths-some (10 ^ length bs) (digitsOf 12 bs) (t .1) in
     let d = digits→ 12 bs (s .1) in
-    let g : f * 10 ^ length bs ≡ valueOf 0 bs * 4096 = ths→ (10 ^ length bs) (digitsOf 12 bs) (t .1) (s .0) (s .1) ∙ ap (λ (x : ℕ). x * 4096) (sym (d .value)) in
+    let g : f * 10 ^ length bs ≡ valueOf 0 bs * 4096 =
+    ths→ (10 ^ length bs) (digitsOf 12 bs) (t .1) (s .0) (s .1) ∙ ap (λ (x : ℕ). x * 4096) (sym (d .value)) in
     let n : NoZero bs = eqb-false (getD bs (length bs - 1) 0) 48 (t .0) in
     record {
       some = filled bs (d .some) (d .all) n g;
@@ -324,16 +325,19 @@ makes-more k f v h i =
 division-value : (k f q v : ℕ) → f < 4096 → f * 10 ^ k ≡ q * 4096 → Makes k f v
 division-value zero f q v l e = makes-none zero f v (no-room f) (even-none f q l e)
 division-value (suc k) f q v l e =
-    ⊎-elim (λ h. makes-more k f v h (division-value k (f * 10 % 4096) (q - f * 10 / 4096 * 10 ^ k) (v * 10 + (48 + f * 10 / 4096 - 48)) (omega arith) (rest-even k f q e)))
-    (λ h. let z : f ≡ 0 = omega arith in makes-none (suc k) f v (ap (fractionDigits (suc k)) z ∙ none-left (suc k)) z)
+    let d = f * 10 / 4096 in
+    ⊎-elim (λ h. makes-more k f v h (division-value k (f * 10 % 4096) (q - d * 10 ^ k) (v * 10 + (48 + d - 48)) (omega arith) (rest-even k f q e)))
+    (λ h. makes-none (suc k) f v (none-at (suc k) f h) (omega arith))
     (less-or-not 0 f)
 
 division-digits : (k f : ℕ) → f < 4096 → allDigits (fractionDigits k f) ≡ true
 unfolding allDigits
 division-digits zero f l = rw (no-room f) refl
 division-digits (suc k) f l =
-    ⊎-elim (λ h. rw (digit-next k f h) (and-both (and-both (le-leb 48 (48 + f * 10 / 4096) (omega arith)) (le-leb (48 + f * 10 / 4096) 57 (omega arith))) (division-digits k (f * 10 % 4096) (omega arith))))
-    (λ h. let z : f ≡ 0 = omega arith in rw (z, none-left (suc k)) refl)
+    let d = 48 + f * 10 / 4096 in
+    ⊎-elim
+    (λ h. rw (digit-next k f h) (and-both (and-both (le-leb 48 d (omega arith)) (le-leb d 57 (omega arith))) (division-digits k (f * 10 % 4096) (omega arith))))
+    (λ h. rw (none-at (suc k) f h) refl)
     (less-or-not 0 f)
 
 pub division-length : (k f : ℕ) → length (fractionDigits k f) ≤ k
@@ -355,8 +359,9 @@ division-last (suc k) f q h l e z =
     let i = rest-even k f q e in
     let g : getD ((48 + d) ∷ fractionDigits k r) (length ((48 + d) ∷ fractionDigits k r) - 1) 0 ≡ 48 = rw (digit-next k f h) at z in
     ⊎-elim
-    (λ s. division-last k r (q - d * 10 ^ k) s (omega arith) i (sym (last-of (48 + d) (fractionDigits k r) (division-some k r (q - d * 10 ^ k) s (omega arith) i)) ∙ g))
-    (λ s. let n : r ≡ 0 = omega arith in omega (arith, last-one (48 + d) (fractionDigits k r) (ap (fractionDigits k) n ∙ none-left k) g))
+    (λ s. let some = division-some k r (q - d * 10 ^ k) s (omega arith) i in
+    division-last k r (q - d * 10 ^ k) s (omega arith) i (sym (last-of (48 + d) (fractionDigits k r) some) ∙ g))
+    (λ s. let n : r ≡ 0 = omega arith in omega (arith, last-one (48 + d) (fractionDigits k r) (none-at k r s) g))
     (less-or-not 0 r)
   where
     last-one : (x : ℕ) (xs : List ℕ) → xs ≡ [] → getD (x ∷ xs) (length (x ∷ xs) - 1) 0 ≡ 48 → x ≡ 48
@@ -367,12 +372,15 @@ pub fraction-back : (f : ℕ) → 0 < f → f < 4096 → fractionOf (fractionDig
 unfolding fractionOf zeroBehind thsOf
 fraction-back f h l =
     let bs = fractionDigits 12 f in
-    let e : f * 10 ^ 12 ≡ f * 244140625 * 4096 = omega arith in
-    let m = division-value 12 f (f * 244140625) 0 l e in
+    let q = f * 244140625 in
+    let e : f * 10 ^ 12 ≡ q * 4096 = omega arith in
+    let m = division-value 12 f q 0 l e in
     let p = 10 ^ length bs in
     let g : valueOf 0 bs * 4096 ≡ f * p = m ∙ ap (λ (x : ℕ). x * p) (plain0 f) in
-    let d : Digits 12 bs (valueOf 0 bs) = record { some = division-some 12 f (f * 244140625) h l e; most = division-length 12 f; all = division-digits 12 f l; value = refl } in
-    rw (ne-eqb (getD bs (length bs - 1) 0) 48 (division-last 12 f (f * 244140625) h l e), digits← 12 bs d, g, mul-mod-left f p, mul-div-cancel f (power-some (length bs))) refl
+    let d : Digits 12 bs (valueOf 0 bs) =
+    record { some = division-some 12 f q h l e; most = division-length 12 f; all = division-digits 12 f l; value = refl } in
+    let n = ne-eqb (getD bs (length bs - 1) 0) 48 (division-last 12 f q h l e) in
+    rw (n, digits← 12 bs d, g, mul-mod-left f p, mul-div-cancel f (power-some (length bs))) refl
   where
     plain0 : (f : ℕ) → 0 * 4096 + f ≡ f
     plain0 f = omega arith
@@ -398,12 +406,16 @@ free-both b (x ∷ xs) ys d e = and-both (and-left (not (eqb x b)) (free b xs) d
 pub before-all : (b : ℕ) (xs : List ℕ) → free b xs ≡ true → before b xs ≡ xs
 unfolding before free
 before-all b [] d = refl
-before-all b (x ∷ xs) d = rw (not-true (eqb x b) (and-left (not (eqb x b)) (free b xs) d)) (ap (λ (l : List ℕ). x ∷ l) (before-all b xs (and-right (not (eqb x b)) (free b xs) d)))
+before-all b (x ∷ xs) d =
+    rw (not-true (eqb x b) (and-left (not (eqb x b)) (free b xs) d))
+    (ap (λ (l : List ℕ). x ∷ l) (before-all b xs (and-right (not (eqb x b)) (free b xs) d)))
 
 pub before-at : (b : ℕ) (xs ys : List ℕ) → free b xs ≡ true → before b (xs ++ (b ∷ ys)) ≡ xs
 unfolding before free
 before-at b [] ys d = rw (eq-eqb b b refl) refl
-before-at b (x ∷ xs) ys d = rw (not-true (eqb x b) (and-left (not (eqb x b)) (free b xs) d)) (ap (λ (l : List ℕ). x ∷ l) (before-at b xs ys (and-right (not (eqb x b)) (free b xs) d)))
+before-at b (x ∷ xs) ys d =
+    rw (not-true (eqb x b) (and-left (not (eqb x b)) (free b xs) d))
+    (ap (λ (l : List ℕ). x ∷ l) (before-at b xs ys (and-right (not (eqb x b)) (free b xs) d)))
 
 pub has-none : (b : ℕ) (xs : List ℕ) → free b xs ≡ true → has b xs ≡ false
 has-none b xs d = rw (before-all b xs d) (le-ltb (length xs) (length xs) (omega arith))
@@ -413,7 +425,9 @@ has-at b xs ys d = rw (before-at b xs ys d) (lt-ltb (length xs) (length (xs ++ (
 
 pub behind-at : (b : ℕ) (xs ys : List ℕ) → free b xs ≡ true → behind b (xs ++ (b ∷ ys)) ≡ ys
 behind-at b xs ys d =
-    rw (before-at b xs ys d) (ap (λ (l : List ℕ). drop (suc (length xs)) l) (sym (append-assoc xs (b ∷ []) ys)) ∙ drop-at (xs ++ (b ∷ [])) ys (suc (length xs)) (length-more xs b))
+    rw (before-at b xs ys d)
+    (ap (λ (l : List ℕ). drop (suc (length xs)) l) (sym (append-assoc xs (b ∷ []) ys))
+    ∙ drop-at (xs ++ (b ∷ [])) ys (suc (length xs)) (length-more xs b))
 
 -- a text with a b is what stands in front of it, the b, and what stands behind
 parts : (b : ℕ) (xs : List ℕ) → length (before b xs) < length xs → xs ≡ before b xs ++ (b ∷ drop (suc (length (before b xs))) xs)
@@ -479,8 +493,9 @@ gain-back w h =
     let free46 = free-digits 46 (countText n) (omega arith) (count-digits n (omega arith) .all) in
     ⊎-elim
     (λ s. let l : f < 4096 = omega arith in
+    let t = countText n in
     let ds = fractionDigits 12 f in
-    rw (gain-point n f w s l e, has-at 46 (countText n) ds free46, behind-at 46 (countText n) ds free46, before-at 46 (countText n) ds free46, c, fraction-back f s l) (ap Is e))
+    rw (gain-point n f w s l e, has-at 46 t ds free46, behind-at 46 t ds free46, before-at 46 t ds free46, c, fraction-back f s l) (ap Is e))
     (λ s. let z : f ≡ 0 = omega arith in
     rw (gain-plain n f w z e, has-none 46 (countText n) free46, c) (ap Is (omega (arith, z, e))))
     (less-or-not 0 f)
@@ -532,5 +547,6 @@ pub value-free : (b : ℕ) (gain : Bool) (w : ℕ) → b < 46 → free b (valueT
 unfolding valueText gainText fractionText free
 value-free b false w h = free-count b w (omega arith)
 value-free b true w h =
+    let ds = free-digits b (fractionDigits 12 (w % 4096)) (omega arith) (division-digits 12 (w % 4096) (omega arith)) in
     free-both b (countText (w / 4096)) _ (free-count b (w / 4096) (omega arith))
-    (⊎-elim (λ e. rw e refl) (λ e. rw e (and-both (ap not (ne-eqb 46 b (λ z. omega (arith, z, h)))) (free-digits b (fractionDigits 12 (w % 4096)) (omega arith) (division-digits 12 (w % 4096) (omega arith))))) (true-or-false (eqb (w % 4096) 0)))
+    (⊎-elim (λ e. rw e refl) (λ e. rw e (and-both (ap not (ne-eqb 46 b (λ z. omega (arith, z, h)))) ds)) (true-or-false (eqb (w % 4096) 0)))

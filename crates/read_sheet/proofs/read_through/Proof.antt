@@ -39,7 +39,8 @@ loop-less c =
     let i = l .loop .inv in
     let p = l .before .before .before .pre in
     less (l .loop .g .size) (r .receive .result .size) (t .turn .result .size) (l .loop .g .going) (t .turn .result .going)
-    (r .before .before .before .before .loop-test .taken) (t .turn .ensures .0) (t .turn .ensures .3) (leb-true (l .loop .g .size) 3072 (r .before .before .if1 .taken))
+    (r .before .before .before .before .loop-test .taken) (t .turn .ensures .0) (t .turn .ensures .3)
+    (leb-true (l .loop .g .size) 3072 (r .before .before .if1 .taken))
     (omega (arith, r .receive .ensures .0, r .receive .kept .0, i .0, p .0))
 
 loop-again : tie.Need-loop-again Inv-loop μ-loop
@@ -50,7 +51,8 @@ loop-again c =
     let i = l .loop .inv in
     let p = l .before .before .before .pre in
     let n : r .receive .result .size ≤ 1024 = omega (arith, r .receive .ensures .0, r .receive .kept .0, i .0, p .0) in
-    (r .receive .kept .0 ∙ i .0, t .turn .kept .1 .1 .0 ∙ i .1, omega (arith, t .turn .ensures .0, n, leb-true (l .loop .g .size) 3072 (r .before .before .if1 .taken)))
+    let m = leb-true (l .loop .g .size) 3072 (r .before .before .if1 .taken) in
+    (r .receive .kept .0 ∙ i .0, t .turn .kept .1 .1 .0 ∙ i .1, omega (arith, t .turn .ensures .0, n, m))
 
 pub read-through-spec : {M : Type 1} → statement M
 read-through-spec =

@@ -25,7 +25,8 @@ begins-requires c κs =
     omega (arith, field k .size, key-short (k .before .before .args .i) (k .before .before .pre))
 
 -- the test is whether the line begins with the key
-test : (c : tie.After-begins) → c .begins .result ≡ starts (key (entryAt (c .before .before .before .before .args .i))) (now (c .before .before .before .before .args .s))
+test : (c : tie.After-begins) → c .begins .result
+    ≡ starts (key (entryAt (c .before .before .before .before .args .i))) (now (c .before .before .before .before .args .s))
 test c =
     let k = c .before .before in
     c .begins .ensures ∙ ap (λ (l : List ℕ). starts l (now (k .before .before .args .s))) (field k .own)

@@ -39,10 +39,13 @@ place : (c : tie.After-first Inv-loop μ-loop) → c .before .before .find .resu
 place c = c .before .before .find .ensures ∙ ap (λ (l : List ℕ). length (before 10 l)) (rest-part (head c .loop .at) (now (head c .before .before .args .text)))
 
 -- it is a line
-good : (c : tie.After-known-told Inv-loop μ-loop) → firstOf (entryAt (head (c .before .before .before) .loop .i)) (rest (c .before .before .before)) ≡ Is (c .before .f .given .0 .0)
+good : (c : tie.After-known-told Inv-loop μ-loop)
+    → firstOf (entryAt (head (c .before .before .before) .loop .i)) (rest (c .before .before .before)) ≡ Is (c .before .f .given .0 .0)
 good c = sym (word (c .before .before .before)) ∙ c .before .f .given .1
 
-fits : (c : tie.After-known-told Inv-loop μ-loop) → head (c .before .before .before) .loop .at + c .before .before .before .before .before .find .result + 1 ≤ length (now (head (c .before .before .before) .before .before .args .text))
+fits : (c : tie.After-known-told Inv-loop μ-loop)
+    → head (c .before .before .before) .loop .at + c .before .before .before .before .before .find .result + 1
+    ≤ length (now (head (c .before .before .before) .before .before .args .text))
 fits c = omega (arith, walking-inside (head (c .before .before .before) .loop .inv) (good c), place (c .before .before .before))
 
 loop-holds : tie.Need-loop-holds Inv-loop μ-loop

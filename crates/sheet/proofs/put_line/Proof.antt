@@ -45,7 +45,8 @@ put-byte-requires c κs =
     let v = c .before .before .before in
     let t = v .before .before .before .before in
     let k = t .before .before .before .before in
-    omega (arith, name k, t .put-text .ensures .0, v .put-value .ensures .0, value-length (k .field-at .result .gain) (k .before .before .args .w) (omega arith))
+    let n = value-length (k .field-at .result .gain) (k .before .before .args .w) (omega arith) in
+    omega (arith, name k, n, t .put-text .ensures .0, v .put-value .ensures .0)
 
 same-length : tie.Need-same-length
 same-length c = search needs
@@ -61,12 +62,13 @@ returns c =
     let g = k .field-at .result .gain in
     let n = value-length g w (omega arith) in
     let own = take (k .field-at .result .size) (k .field-at .result .key) in
-    let p =
-    put-then
-    (put-then (put (t .put-text .ensures .0) (t .put-text .ensures .1)) (put (v .put-value .ensures .0) (v .put-value .ensures .1)) (omega (arith, name k, n, s .pre .1)))
-    (put (b .put-byte .ensures .0) (b .put-byte .ensures .1)) (omega (arith, name k, n, s .pre .1, length-append own (valueText g w))) in
-    let r = named p (line-as w (field k)) in
-    (r .0, r .1, omega (arith, name k, n, b .put-byte .ensures .0, v .put-value .ensures .0, t .put-text .ensures .0))
+    let d = t .put-text .ensures in
+    let e = v .put-value .ensures in
+    let f = b .put-byte .ensures in
+    let i = put-then (put (d .0) (d .1)) (put (e .0) (e .1)) (omega (arith, name k, n, s .pre .1)) in
+    let j = put-then i (put (f .0) (f .1)) (omega (arith, name k, n, s .pre .1, length-append own (valueText g w))) in
+    let r = named j (line-as w (field k)) in
+    (r .0, r .1, omega (arith, name k, n, f .0, e .0, d .0))
 
 pub put-line-spec : {M : Type 1} → statement M
 put-line-spec =

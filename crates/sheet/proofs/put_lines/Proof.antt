@@ -31,7 +31,8 @@ put-line-requires c κs =
     (omega arith, omega (arith, l .inv .few, l .inv .long, l .inv .room))
 
 -- the word without its sign
-arg : (c : tie.After-size Inv-loop μ-loop) → c .size .result ≡ natAbs (getD (c .before .before .before .before .before .args .t1) (c .before .before .before .loop .i) (pos 0))
+arg : (c : tie.After-size Inv-loop μ-loop)
+    → c .size .result ≡ natAbs (getD (c .before .before .before .before .before .args .t1) (c .before .before .before .loop .i) (pos 0))
 arg c =
     let z = getD (c .before .before .before .before .before .args .t1) (c .before .before .before .loop .i) (pos 0) in
     c .size .ensures ∙ ap natAbs (readOk32 z (c .before .size-arg .given))

@@ -28,14 +28,16 @@ returns-2 : tie.Need-returns-2
 unfolding readingOf
 returns-2 c =
     let g = c .before .o2 .given in
-    ap₂ (λ (n : ℤ) (s : Settings). read n (pos 0) s) (answer w32 {x = g .0 .0} (c .known-told2 .given .0 .1) .is) (c .before .before .before .no-settings .ensures)
+    ap₂ (λ (n : ℤ) (s : Settings). read n (pos 0) s) (answer w32 {x = g .0 .0} (c .known-told2 .given .0 .1) .is)
+    (c .before .before .before .no-settings .ensures)
     ∙ ap readingOf (sym (g .1))
 
 returns-3 : tie.Need-returns-3
 unfolding readingOf
 returns-3 c =
     let g = c .before .o3 .given in
-    ap₂ (λ (l : ℤ) (s : Settings). read (pos 17) l s) (rw (lt-ltb (g .0 .0) (2 ^ 31) (omega (arith, small c))) refl) (c .before .before .before .no-settings .ensures)
+    ap₂ (λ (l : ℤ) (s : Settings). read (pos 17) l s) (rw (lt-ltb (g .0 .0) (2 ^ 31) (omega (arith, small c))) refl)
+    (c .before .before .before .no-settings .ensures)
     ∙ ap readingOf (sym (g .1))
 
 pub reading-of-spec : {M : Type 1} → statement M

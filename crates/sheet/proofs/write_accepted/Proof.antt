@@ -4,6 +4,7 @@ use borrow.Author.Needs.{needs}
 use mathlib.Core.Path.{_≡_, ap, ap₂, sym, _∙_}
 use mathlib.Core.List.{List}
 use Prim.Native.Nat.{ℕ, _+_}
+use native.Mathlib.Nat.{zero-add}
 use native.Mathlib.Omega.{arith}
 use lib.IntN.{ℤ}
 use lib.ListN.{length, take}
@@ -16,16 +17,13 @@ use Rattle.sheet.proofs.Putting.{front, too-short, in-full}
 use Rattle.sheet.proofs.write_accepted.Statement.{statement}
 use Rattle.sheet.proofs.write_accepted.Tie as tie
 
-plain : (n : ℕ) → 0 + n ≡ n
-plain n = omega arith
-
 -- the sheet that was made
 abbrev asked : tie.After-put-lines → Settings
 asked c = c .before .before .before .before .args .s
 
 size : (c : tie.After-put-lines) → c .put-lines .result ≡ length (sheetText (asked c))
 unfolding sheetText
-size c = c .put-lines .ensures .0 ∙ plain _ ∙ ap (λ (zs : List ℤ). length (linesText entries zs)) (c .before .before .words-of .ensures)
+size c = c .put-lines .ensures .0 ∙ zero-add _ ∙ ap (λ (zs : List ℤ). length (linesText entries zs)) (c .before .before .words-of .ensures)
 
 text : (c : tie.After-put-lines) → take (c .put-lines .result) (c .put-lines .last .1 .0) ≡ sheetText (asked c)
 unfolding sheetText

@@ -51,7 +51,10 @@ returns c =
     let k = t .before in
     let s = now (k .before .before .args .s) in
     let p = k .find .ensures in
-    c .sum .ensures ∙ ap₂ sumOf (w .whole .ensures ∙ ap wholeOf (ap (λ (n : ℕ). take n s) p ∙ before-take 46 s)) (f .fraction .ensures ∙ ap fractionOf (behind-part 46 s (k .find .result) p)) ∙ gain-with s (omega (arith, p, t .if1 .taken))
+    c .sum .ensures
+    ∙ ap₂ sumOf (w .whole .ensures ∙ ap wholeOf (ap (λ (n : ℕ). take n s) p ∙ before-take 46 s))
+    (f .fraction .ensures ∙ ap fractionOf (behind-part 46 s (k .find .result) p))
+    ∙ gain-with s (omega (arith, p, t .if1 .taken))
 
 whole-requires-2 : tie.Need-whole-requires-2
 whole-requires-2 c κs = search needs

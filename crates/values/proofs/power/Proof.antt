@@ -15,31 +15,25 @@ Inv-loop n p₀ i₀ p i = (p ≡ 10 ^ i) × (i ≤ n)
 abbrev μ-loop : tie.MeasureT-loop
 μ-loop n p₀ i₀ p i = n - i
 
--- src/lib.rt:99:5
 loop-holds : tie.Need-loop-holds Inv-loop μ-loop
 loop-holds c = (refl, omega arith)
 
--- src/lib.rt:100:9
 mul-p : tie.Need-mul-p Inv-loop μ-loop
 mul-p c =
     let l = c .before in
     record { fits = omega (arith, l .loop .inv .0, power-most (l .loop .i) 11 (omega arith)) }
 
--- src/lib.rt:101:9
 add-i : tie.Need-add-i Inv-loop μ-loop
 add-i c = omega arith
 
--- src/lib.rt:99:5
 loop-less : tie.Need-loop-less Inv-loop μ-loop
 loop-less c = omega arith
 
--- src/lib.rt:99:5
 loop-again : tie.Need-loop-again Inv-loop μ-loop
 loop-again c =
     let l = c .before in
     (rw (add-one (l .loop .i), pow-suc 10 (l .loop .i)) (ap (λ (x : ℕ). x * 10) (l .loop .inv .0)), omega arith)
 
--- src/lib.rt:93:1
 returns : tie.Need-returns Inv-loop μ-loop
 returns c =
     let l = c .before in

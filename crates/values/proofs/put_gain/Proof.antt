@@ -46,11 +46,12 @@ returns-2 c =
     let s = k .before .before .before in
     let w = s .args .w in
     let n = count-length (w / 4096) (omega arith) in
+    let l = length-more (countText (w / 4096)) 46 in
     let f : 0 < w % 4096 = ⊎-elim (λ h. h) (λ h. absurd (e .if1 .left (omega arith))) (less-or-not 0 (w % 4096)) in
     named
     (put-then
     (put-then (put (k .put-count .ensures .0) (k .put-count .ensures .1)) (put (b .put-byte .ensures .0) (b .put-byte .ensures .1)) (omega (arith, n, s .pre)))
-    (put (d .put-fraction .ensures .0) (d .put-fraction .ensures .1)) (omega (arith, n, s .pre, length-more (countText (w / 4096)) 46, division-length 12 (w % 4096))))
+    (put (d .put-fraction .ensures .0) (d .put-fraction .ensures .1)) (omega (arith, n, s .pre, l, division-length 12 (w % 4096))))
     (gain-point (w / 4096) (w % 4096) w f (omega arith) (omega arith) ∙ sym (append-assoc (countText (w / 4096)) (46 ∷ []) (fractionDigits 12 (w % 4096))))
 
 pub put-gain-spec : {M : Type 1} → statement M
