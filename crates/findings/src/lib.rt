@@ -78,7 +78,7 @@ fn put_expected(i: usize, out: &mut [u8], at: usize) -> usize
 fn shown_byte(b: u8) -> u8
     ensures { λ r. ⌜ r ≡ shownByte b ⌝ }
 {
-    if (32 <= b) & (b <= 126) { b } else { 63 }
+    if (32 <= b) & (b <= 126) { b } else { b'?' }
 }
 
 fn put_shown(line: &[u8], out: &mut [u8], at: usize) -> usize
@@ -134,7 +134,7 @@ fn put_found(rest: &[u8], out: &mut [u8], at: usize) -> usize
         × (r ≤ at + 62) ⌝ }
 {
     if 0 < rest.len() {
-        let n = values::find(rest, 10);
+        let n = values::find(rest, b'\n');
         let a = put_quoted(&rest[..n], out, at);
         return put_end(rest, n, out, a);
     }
@@ -157,7 +157,7 @@ fn line_place(i: usize, text: &[u8]) -> usize
     let mut at = 0;
     let mut k = 0;
     while k < i {
-        let n = values::find(&text[at..], 10);
+        let n = values::find(&text[at..], b'\n');
         at = past(at, n, text.len());
         k += 1;
     }

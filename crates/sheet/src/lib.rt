@@ -1,20 +1,19 @@
-// The sheet of a motor's settings: text that is read, and text that is written.
+// The sheet of a motor's settings: text that is read, and text that is written; and both for C.
 ghost use mathlib.Core.Path.{_≡_};
 ghost use mathlib.Core.Bool.{true};
-ghost use Prim.Native.Nat.{_+_, _*_, _^_, _≤_, _<_};
+ghost use Prim.Native.Nat.{_+_, _*_, _≤_, _<_};
 ghost use lib.IntN.{pos};
-ghost use lib.ListN.{length, getD, take, drop};
+ghost use lib.ListN.{length, take};
 ghost use Rattle.values.specs.Value.{before};
 ghost use Rattle.writing.specs.Decimal.{written};
 ghost use Rattle.settings.specs.Settings.{accepted};
-ghost use Rattle.settings.specs.Words.{size as lineCount, entryAt, entries, wordsOf, settingsOf};
+ghost use Rattle.settings.specs.Words.{size as lineCount, entryAt, entries};
 ghost use Rattle.sheet.specs.Sheet.{
   starts,
   lineOf,
   firstOf,
   judged,
   linesOf,
-  outcome,
   readSheet,
   lineText,
   linesText,
@@ -94,6 +93,7 @@ fn first(i: usize, s: &[u8], n: usize) -> Number
     Number::Wrong
 }
 
+// The word of a value: the largest gain is below 100000, and its 4096ths fit 32 bits.
 fn word(v: u64) -> i32
     requires { ⌜ v < 409600000 ⌝ }
     ensures { λ r. ⌜ r ≡ pos v ⌝ }
@@ -109,7 +109,7 @@ pub fn lines(text: &[u8]) -> Found
     let mut at = 0;
     let mut i = 0;
     while i < LINES {
-        let n = values::find(&text[at..], 10);
+        let n = values::find(&text[at..], b'\n');
         let f = first(i, &text[at..], n);
         let Number::Is(w) = f else {
             return Found::Bad(i + 1);
@@ -124,6 +124,7 @@ pub fn lines(text: &[u8]) -> Found
     Found::Good(settings::of_words(&words))
 }
 
+// Settings that were read, or the number that refuses them.
 fn judge(s: Settings) -> Outcome
     ensures { λ r. ⌜ r ≡ judged s ⌝ }
 {
@@ -153,7 +154,7 @@ fn put_line(i: usize, w: u64, out: &mut [u8], at: usize) -> usize
     let key = f.key;
     let a = writing::put_text(&key[..n], out, at);
     let b = values::put_value(f.gain, w, out, a);
-    writing::put_byte(10, out, b)
+    writing::put_byte(b'\n', out, b)
 }
 
 // The sheet with these words.

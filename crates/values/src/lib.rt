@@ -20,7 +20,7 @@ ghost use Rattle.values.specs.Value.{
   valueText,
 };
 
-// What digits are read as.
+// What a text is read as: a number, or none.
 pub enum Number {
     Is(u64),
     Wrong,
@@ -43,7 +43,7 @@ pub fn find(s: &[u8], b: u8) -> usize
 fn is_digit(b: u8) -> bool
     ensures { λ r. ⌜ r ≡ isDigit b ⌝ }
 {
-    (48 <= b) & (b <= 57)
+    (b'0' <= b) & (b <= b'9')
 }
 
 // One to n digits: their number.
@@ -63,7 +63,7 @@ fn digits(s: &[u8], n: usize) -> Number
         if !is_digit(s[i]) {
             return Number::Wrong;
         }
-        value = value * 10 + (s[i] - 48) as u64;
+        value = value * 10 + (s[i] - b'0') as u64;
         i += 1;
     }
     Number::Is(value)
@@ -76,12 +76,13 @@ fn whole(s: &[u8]) -> Number
     if s.len() < 2 {
         return digits(s, 5);
     }
-    if s[0] == 48 {
+    if s[0] == b'0' {
         return Number::Wrong;
     }
     digits(s, 5)
 }
 
+// 10^n.
 fn power(n: usize) -> u64
     requires { ⌜ n ≤ 12 ⌝ }
     ensures { λ r. ⌜ r ≡ 10 ^ n ⌝ }
@@ -116,7 +117,7 @@ fn fraction(s: &[u8]) -> Number
     if n < 1 {
         return Number::Wrong;
     }
-    if s[n - 1] == 48 {
+    if s[n - 1] == b'0' {
         return Number::Wrong;
     }
     let d = digits(s, 12);
@@ -126,6 +127,7 @@ fn fraction(s: &[u8]) -> Number
     ths(v, n)
 }
 
+// A whole number and the 4096ths behind its point, as 4096ths.
 fn sum(w: Number, f: Number) -> Number
     requires { ⌜ Summands w f ⌝ }
     ensures { λ r. ⌜ r ≡ sumOf w f ⌝ }
@@ -139,10 +141,11 @@ fn sum(w: Number, f: Number) -> Number
     Number::Is(a * 4096 + b)
 }
 
+// A gain: a whole number, and then nothing or a point and what may stand behind one.
 fn gain(s: &[u8]) -> Number
     ensures { λ r. ⌜ r ≡ gainOf (now (s .entry)) ⌝ }
 {
-    let p = find(s, 46);
+    let p = find(s, b'.');
     if p < s.len() {
         let w = whole(&s[..p]);
         let f = fraction(&s[p + 1..]);
@@ -151,6 +154,7 @@ fn gain(s: &[u8]) -> Number
     sum(whole(s), Number::Is(0))
 }
 
+// A value: a gain, or a whole number where the line has no gain.
 pub fn value(gain_line: bool, s: &[u8]) -> Number
     ensures { λ r. ⌜ r ≡ numberOf «gain_line» (now (s .entry)) ⌝ }
 {
@@ -160,7 +164,7 @@ pub fn value(gain_line: bool, s: &[u8]) -> Number
     whole(s)
 }
 
-// The digits of f/4096 behind the point at a place; answers the place after them, as the next four do.
+// The digits of f/4096 behind the point at a place; answers the place after them, as the next two do.
 fn put_fraction(f: u64, out: &mut [u8], at: usize) -> usize
     requires { ⌜ (f < 4096) × (at + 12 ≤ length (now out)) ⌝ }
     ensures { λ r. ⌜ (r ≡ at + length (fractionDigits 12 f)) × (now (out .exit) ≡ written (now (out .entry)) at (fractionDigits 12 f)) ⌝ }
@@ -168,7 +172,7 @@ fn put_fraction(f: u64, out: &mut [u8], at: usize) -> usize
     let mut rest = f;
     let mut place = at;
     while 0 < rest {
-        out[place] = 48 + (rest * 10 / 4096) as u8;
+        out[place] = b'0' + (rest * 10 / 4096) as u8;
         rest = rest * 10 % 4096;
         place += 1;
     }
@@ -184,7 +188,7 @@ fn put_gain(w: u64, out: &mut [u8], at: usize) -> usize
     if f == 0 {
         return a;
     }
-    let b = writing::put_byte(46, out, a);
+    let b = writing::put_byte(b'.', out, a);
     put_fraction(f, out, b)
 }
 
