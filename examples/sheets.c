@@ -26,7 +26,7 @@ static mirgalhet_settings read_sheet(const char *text)
     return r.settings;
 }
 
-/* No one here looks at the number of the read, as you should: even so a refused sheet starts no drive, and one that runs goes on. */
+/* The number of the read is not looked at here, though you should look: even so a refused sheet starts no drive, and one that runs goes on. */
 static void start_and_step(mirgalhet_settings settings)
 {
     printf("start %d\n", (int)mirgalhet_start(&drive, settings));

@@ -80,7 +80,7 @@ def faulty_line(words, lines):
     """The number of the first line that is not good, 0 where there is none."""
     if len(words) < len(NAMES):
         return len(words) + 1
-    return 16 if len(lines) > len(NAMES) else 0
+    return len(NAMES) + 1 if len(lines) > len(NAMES) else 0
 
 
 def line_and_settings(text):
@@ -135,7 +135,7 @@ def expected(line):
         return 'the end of the sheet'
     name = NAMES[line - 1]
     if name in GAINS:
-        return name + '= and a gain in 4096ths, such as 0.25 or 2, with a point and no comma, and no zero in front or behind'
+        return name + '= and a gain such as 0.25 or 2, a whole number of 4096ths, with a point, no comma, no zero in front or behind'
     return name + '= and a whole number of one to five digits, with no zero in front'
 
 

@@ -52,7 +52,8 @@ end-same m bs h =
 found-same : (m : ℕ) (bs : List ℕ) → 41 ≤ m → foundText (take m bs) ≡ foundText bs
 unfolding foundText quoted
 found-same m bs h =
-    rw (end-same m bs h, length-take m bs, cut-test 0 m (length bs) (omega (arith, h)), cut-before 10 m bs, take-take 40 m (before 10 bs) (omega (arith, h))) refl
+    let few = take-take 40 m (before 10 bs) (omega (arith, h)) in
+    rw (end-same m bs h, length-take m bs, cut-test 0 m (length bs) (omega (arith, h)), cut-before 10 m bs, few) refl
 
 -- ════ where the faulty line begins
 -- from there on the first n bytes of a text are the first m, which are few less
@@ -81,7 +82,8 @@ unfolding withFirst andThen
 later i j w (words zs) e = absurd (no-fault e)
 later i j w (faulty m) e = e
 
-onward : (c i j n : ℕ) (es : List Entry) (bs : List ℕ) → plain 10 es ≡ true → short es ≡ true → 25 * length es + c ≤ n → readLines i es bs ≡ faulty j → Onward c (j - i) n bs
+onward : (c i j n : ℕ) (es : List Entry) (bs : List ℕ) → plain 10 es ≡ true → short es ≡ true → 25 * length es + c ≤ n
+    → readLines i es bs ≡ faulty j → Onward c (j - i) n bs
 unfolding readLines plain short withFirst
 onward c i j n [] [] p k h e = absurd (no-fault e)
 onward c i j n [] (b ∷ bs) p k h e = let z : i ≡ j = cc in at-zero c i j n (b ∷ bs) z (omega (arith, h))

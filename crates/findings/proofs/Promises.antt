@@ -12,28 +12,19 @@ use Rattle.fixed.proofs.Choice.{by-test, by-order}
 use Rattle.fixed.proofs.HeldLaws.{and-both}
 use Rattle.settings.specs.declared.Settings.{Settings}
 use Rattle.settings.specs.Settings.{tied, gainsTied}
-use Rattle.settings.specs.Words.{Entry, entries, noEntry, size, wordsOf, settingsOf, allIn}
+use Rattle.settings.specs.Words.{Entry, entries, noEntry, size, wordsOf, allIn}
 use Rattle.settings.proofs.Names.{in-range-number, untied-only}
 use Rattle.sheet.specs.declared.Found.{Found}
 use Rattle.sheet.specs.declared.Found.the-variants.{Good, Bad}
-use Rattle.sheet.specs.declared.Outcome.the-variants.{Read, Refused, Faulty}
-use Rattle.sheet.specs.Sheet.{sheetText, Words, words, faulty, readLines, settingsIn, linesOf, outcome, readSheet}
-use Rattle.sheet.proofs.SheetLaws.{lines-text, judged→, judged-refused, judged-number, count-entries}
+use Rattle.sheet.specs.declared.Outcome.the-variants.{Read, Faulty}
+use Rattle.sheet.specs.Sheet.{linesOf, outcome, readSheet}
+use Rattle.sheet.proofs.SheetLaws.{good-text, sheet-refused, judged→, judged-number, count-entries}
 use Rattle.findings.specs.Findings.{fromLine, faultText, firstOut, untiedAt, refusedText, acceptedText, judgedText, toldText, answerText}
 use Rattle.findings.specs.Phrases as say
 use Rattle.findings.specs.Promised as is
 use Rattle.findings.proofs.Early.{answer-early}
 
 -- ════ what is said is what is read
--- a text whose lines are all good is the text of the settings in it
-good-text : (bs : List ℕ) (r : Settings) → linesOf bs ≡ Good r → bs ≡ sheetText r
-unfolding linesOf settingsIn
-good-text bs r e = by (readLines 1 entries bs) refl e
-  where
-    by : (ls : Words) → readLines 1 entries bs ≡ ls → settingsIn ls ≡ Good r → bs ≡ sheetText r
-    by (words zs) g e = let z : settingsOf zs ≡ r = cc in lines-text bs g ∙ ap sheetText z
-    by (faulty i) g e = let z : _≡_ {A = ℕ} 0 1 = cc in absurd (omega arith)
-
 pub good-echoed : is.GoodEchoed
 unfolding readSheet outcome answerText toldText judgedText acceptedText
 good-echoed bs s e = by (linesOf bs) refl e
@@ -51,12 +42,10 @@ fault-told bs j e = by (linesOf bs) e
     by (Bad i) e = let z : i ≡ j = cc in ap (λ (k : ℕ). faultText k (fromLine (k - 1) bs)) z
 
 pub refusal-told : is.RefusalTold
-unfolding readSheet outcome answerText toldText judgedText
-refusal-told bs n e = by (linesOf bs) refl e
-  where
-    by : (f : Found) → linesOf bs ≡ f → outcome f ≡ Refused n → (s : Settings) × (bs ≡ sheetText s) × (toldText bs f ≡ refusedText s n)
-    by (Good r) g e = let h = judged-refused r n e in (r, good-text bs r g, rw (h .0) (ap (refusedText r) (h .1)))
-    by (Bad i) g e = let z : _≡_ {A = ℕ} 0 1 = cc in absurd (omega arith)
+unfolding answerText toldText judgedText
+refusal-told bs n e =
+    let h = sheet-refused bs n .0 e in
+    record { settings = h .0; stand = h .1; refused = h .2; number = h .3; said = rw (h .1, h .2) (ap (refusedText (h .0)) (h .3)) }
 
 pub unread-changes-nothing : is.UnreadChangesNothing
 unread-changes-nothing = answer-early

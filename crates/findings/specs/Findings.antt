@@ -24,7 +24,7 @@ kindText gain = cond gain say.gainKind say.wholeKind
 unfoldable pub expectedText : ℕ → List ℕ
 expectedText i = cond (ltb i size) (key (entryAt i) ++ kindText (entryAt i .gain)) say.theEnd
 
--- a byte as it is shown: where it is no letter, digit or sign of a line it is a question mark (63)
+-- a byte as it is shown: one outside 32..126 is a question mark (63)
 abbrev pub shownByte : ℕ → ℕ
 shownByte b = cond (leb 32 b && leb b 126) b 63
 

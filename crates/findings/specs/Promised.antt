@@ -10,7 +10,8 @@ use Rattle.settings.specs.declared.Settings.{Settings}
 use Rattle.settings.specs.Settings.{accepted, refusal, tied}
 use Rattle.settings.specs.Words.{entries, entryAt, size, wordsOf}
 use Rattle.sheet.specs.declared.Outcome.the-variants.{Read, Refused, Faulty}
-use Rattle.sheet.specs.Sheet.{sheetText, readSheet}
+use Rattle.sheet.specs.declared.Found.the-variants.{Good}
+use Rattle.sheet.specs.Sheet.{linesOf, readSheet}
 use Rattle.findings.specs.Phrases as say
 use Rattle.findings.specs.Findings.{fromLine, faultText, firstOut, untiedAt, refusedText, answerText}
 
@@ -24,8 +25,15 @@ abbrev pub FaultTold : Type 0
 FaultTold = (bs : List ℕ) (j : ℕ) → readSheet bs ≡ Faulty j → answerText bs ≡ faultText j (fromLine (j - 1) bs)
 
 -- 1 to 5: the number, and why the settings that stand in the text are refused
+pub record Told (bs : List ℕ) (n : ℤ) : Type 0 where
+  pub settings : Settings
+  pub stand : linesOf bs ≡ Good settings
+  pub refused : accepted settings ≡ false
+  pub number : refusal settings ≡ n
+  pub said : answerText bs ≡ refusedText settings n
+
 abbrev pub RefusalTold : Type 0
-RefusalTold = (bs : List ℕ) (n : ℤ) → readSheet bs ≡ Refused n → (s : Settings) × (bs ≡ sheetText s) × (answerText bs ≡ refusedText s n)
+RefusalTold = (bs : List ℕ) (n : ℤ) → readSheet bs ≡ Refused n → Told bs n
 
 -- what stands behind the first 500 bytes changes nothing: so it need not be read
 abbrev pub UnreadChangesNothing : Type 0

@@ -42,12 +42,12 @@ const WORDS: usize = settings::WORDS;
 
 // What kind of value a line has.
 fn put_kind(gain: bool, out: &mut [u8], at: usize) -> usize
-    requires { ⌜ at + 102 ≤ length (now out) ⌝ }
-    ensures { λ r. ⌜ (r ≡ at + length (kindText «gain»)) × (now (out .exit) ≡ written (now (out .entry)) at (kindText «gain»)) × (r ≤ at + 102) ⌝ }
+    requires { ⌜ at + 110 ≤ length (now out) ⌝ }
+    ensures { λ r. ⌜ (r ≡ at + length (kindText «gain»)) × (now (out .exit) ≡ written (now (out .entry)) at (kindText «gain»)) × (r ≤ at + 110) ⌝ }
 {
     if gain {
         return writing::put_text(
-            b" and a gain in 4096ths, such as 0.25 or 2, with a point and no comma, and no zero in front or behind",
+            b" and a gain such as 0.25 or 2, a whole number of 4096ths, with a point, no comma, no zero in front or behind",
             out,
             at,
         );
@@ -61,8 +61,8 @@ fn put_kind(gain: bool, out: &mut [u8], at: usize) -> usize
 
 // What should stand in line i, counted from 0.
 fn put_expected(i: usize, out: &mut [u8], at: usize) -> usize
-    requires { ⌜ at + 108 ≤ length (now out) ⌝ }
-    ensures { λ r. ⌜ (r ≡ at + length (expectedText i)) × (now (out .exit) ≡ written (now (out .entry)) at (expectedText i)) × (r ≤ at + 108) ⌝ }
+    requires { ⌜ at + 116 ≤ length (now out) ⌝ }
+    ensures { λ r. ⌜ (r ≡ at + length (expectedText i)) × (now (out .exit) ≡ written (now (out .entry)) at (expectedText i)) × (r ≤ at + 116) ⌝ }
 {
     if i < WORDS {
         let f = names::field_at(i);
@@ -166,9 +166,9 @@ fn line_place(i: usize, text: &[u8]) -> usize
 
 // Line i, counted from 1, is faulty, and this stands there.
 fn put_fault(i: usize, rest: &[u8], out: &mut [u8], at: usize) -> usize
-    requires { ⌜ (1 ≤ i) × (at + 218 ≤ length (now out)) ⌝ }
+    requires { ⌜ (1 ≤ i) × (at + 226 ≤ length (now out)) ⌝ }
     ensures { λ r. ⌜ (r ≡ at + length (faultText i (now (rest .entry)))) × (now (out .exit) ≡ written (now (out .entry)) at (faultText i (now (rest .entry))))
-        × (r ≤ at + 218) ⌝ }
+        × (r ≤ at + 226) ⌝ }
 {
     let a = writing::put_text(b"17 line ", out, at);
     let b = writing::put_count(i as u64, out, a);

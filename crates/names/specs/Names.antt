@@ -6,7 +6,7 @@ use lib.ListN.{length, replicate}
 use Rattle.settings.specs.Words.{Entry, key}
 use Rattle.names.specs.declared.Field.{Field}
 
--- an entry as the code keeps it: the key in six places, the last of them blank (32)
+-- an entry as the code keeps it: the key, with blanks (32) behind it up to six places
 unfoldable pub fieldOf : Entry → Field
 fieldOf e = record {
   key = key e ++ replicate (6 - length (key e)) 32;

@@ -1,19 +1,21 @@
 -- Demand 1, the table of numbers: each call asks its table's tests in their order. What the ladder's laws need of a table is that its numbers
 -- differ, which is computed, and that each answer has its row's number.
 -- Assumes nothing.
-use mathlib.Core.Path.{_≡_, refl}
+use mathlib.Core.Path.{_≡_, refl, ap, sym, _∙_}
 use mathlib.Core.Bool.{Bool, true, false, not, cond, false≢true}
 use mathlib.Core.List.{List}
 use Prim.Native.Nat.{ℕ, zero, suc}
+use lib.Dec.{leb}
 use lib.IntN.{ℤ, pos}
 use lib.ListN.{length}
 use Rattle.fixed.specs.Fixed.{within}
 use Rattle.fixed.specs.Ladder.{answerOf, Reached}
+use Rattle.fixed.proofs.Choice.{by-test}
 use Rattle.fixed.proofs.HeldLaws.{equal-is}
 use Rattle.fixed.proofs.LadderLaws.{Climbs, exactly, every, holds, all-pass}
 use Rattle.settings.specs.declared.Settings.{Settings}
 use Rattle.settings.specs.declared.Checked.the-variants.{Accepted}
-use Rattle.settings.specs.Settings.{refusals, accepted, checked, checkedNumber}
+use Rattle.settings.specs.Settings.{refusals, refusal, accepted, checked, checkedNumber, periodOk, gainsOk, gainsTied, limitsOk, restOk}
 use Rattle.settings.proofs.Ranges.{checked-is}
 use Rattle.drive_record.specs.declared.Drive.{Drive}
 use Rattle.drive_record.specs.Record.{broken}
@@ -23,6 +25,11 @@ use Rattle.drive.specs.declared.Made.the-variants.{Ready}
 use Rattle.drive.specs.Calls.{fresh, makeTable, made, madeNumber, withTrip, refused, stepTable}
 use Rattle.drive.specs.Calls.{stepped, answered, withTarget, targetTable, targeted, clearTable, cleared}
 use Rattle.drive.proofs.CallLaws.{made-is}
+use Rattle.sheet.specs.declared.Outcome.{Outcome}
+use Rattle.sheet.specs.declared.Outcome.the-variants.{Read, Refused, Faulty}
+use Rattle.sheet.specs.Sheet.{sheetText, readSheet, wrote}
+use Rattle.sheet.specs.Calls.{readingOf, writingOf}
+use Rattle.sheet.proofs.SheetLaws.{sheet-refused}
 use Rattle.rows.specs.declared.Ran.{Ran}
 use Rattle.rows.specs.Rows.{isAccepted, noRows, afterRow, ranOf, rowsIn, rowsFit, runTable, runOf, outputAfter}
 use Rattle.promises.specs.Demand1.{CheckTable, MakeTable, DriveOrNumber, ZeroIfAccepted, StepTable, TargetTable}
@@ -122,6 +129,35 @@ module _ (d : Drive) (ia ib count : ℤ) where
       (λ b. spoilt b, λ b. (λ t. same (pos 7) refl t, λ t. (λ s. marked (pos 6) refl, λ s. by-rules (no-rung (b, (t, (s, tt)))))))
 
 -- ════ 11 to 13 are kept free
+-- of the settings' numbers, and so of a sheet's
+refusal-free : (s : Settings) → spare (refusal s) ≡ false
+unfolding refusal
+refusal-free s = by (periodOk s) (gainsOk s) (gainsTied s) (limitsOk s) (restOk s)
+  where
+    by : (a b c d e : Bool) → spare (pos (cond a (cond b (cond c (cond d (cond e 0 5) 4) 3) 2) 1)) ≡ false
+    by false b c d e = refl
+    by true false c d e = refl
+    by true true false d e = refl
+    by true true true false e = refl
+    by true true true true false = refl
+    by true true true true true = refl
+
+read-free : (text : List ℕ) → spare (readingOf (readSheet text) .number) ≡ false
+unfolding readingOf
+read-free text = by (readSheet text) refl
+  where
+    by : (o : Outcome) → readSheet text ≡ o → spare (readingOf o .number) ≡ false
+    by (Read s) e = refl
+    by (Refused n) e = let h = sheet-refused text n .0 e in ap spare (sym (h .3)) ∙ refusal-free (h .0)
+    by (Faulty i) e = refl
+
+write-free : (s : Settings) (room : ℕ) → spare (writingOf (wrote s room) .number) ≡ false
+unfolding writingOf wrote
+write-free s room =
+    by-test (accepted s)
+    (λ a. rw a (by-test (leb (length (sheetText s)) room) (λ t. rw t refl) (λ t. rw t refl)))
+    (λ a. rw a (refusal-free s))
+
 pub kept-free : KeptFree
 kept-free = record {
   make-free = λ s. free _ (every (make-climbs s) unspared refl);
@@ -129,6 +165,8 @@ kept-free = record {
   target-free = λ d wanted. free _ (every (target-climbs d wanted) unspared refl);
   clear-free = λ d. free _ (every (clear-climbs d) unspared refl);
   run-free = λ d samples out. free _ (every (run-climbs d samples out) unspared refl);
+  read-free = read-free;
+  write-free = write-free;
 }
   where
     unspared : ℤ → Bool

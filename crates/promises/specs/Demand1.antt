@@ -5,7 +5,7 @@ use mathlib.Core.Path.{_≡_}
 use mathlib.Core.Bool.{Bool, true, false}
 use mathlib.Core.List.{List, [], _++_}
 use mathlib.Core.Logic.{_↔_}
-use Prim.Native.Nat.{_*_}
+use Prim.Native.Nat.{ℕ, _*_}
 use lib.IntN.{ℤ, pos}
 use lib.ListN.{drop}
 use Rattle.fixed.specs.Fixed.{within}
@@ -19,6 +19,8 @@ use Rattle.stages.specs.declared.Stepped.{Stepped}
 use Rattle.stages.specs.Step.{advanced}
 use Rattle.drive.specs.declared.Made.the-variants.{Ready, Refused}
 use Rattle.drive.specs.Calls.{fresh, makeTable, made, madeNumber, stepTable, stepped, answered, withTarget, targetTable, targeted, clearTable, cleared}
+use Rattle.sheet.specs.Sheet.{readSheet, wrote}
+use Rattle.sheet.specs.Calls.{readingOf, writingOf}
 use Rattle.rows.specs.declared.Ran.{Ran}
 use Rattle.rows.specs.Rows.{isAccepted, noRows, ranOf, writtenOf, rowsIn, runTable, runOf, outputAfter}
 
@@ -82,3 +84,5 @@ pub record KeptFree : Type 0 where
   pub target-free : (d : Drive) (wanted : ℤ) → Free (targeted d wanted .number)
   pub clear-free : (d : Drive) → Free (cleared d .number)
   pub run-free : (d : Drive) (samples out : List ℤ) → Free (runOf d samples out .number)
+  pub read-free : (text : List ℕ) → Free (readingOf (readSheet text) .number)
+  pub write-free : (s : Settings) (room : ℕ) → Free (writingOf (wrote s room) .number)

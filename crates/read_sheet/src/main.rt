@@ -12,6 +12,11 @@ const CHUNK: usize = 1024;
 
 const ENOUGH: usize = 3072;
 
+// Room for what is enough and one read more, and for the longest answer.
+const ROOM: usize = ENOUGH + CHUNK;
+
+const ANSWER: usize = 602;
+
 // What was gathered: so many bytes; whether a read failed; whether to go on.
 pub struct Gathered {
     pub size: usize,
@@ -51,11 +56,11 @@ fn read_through(bytes: &mut [u8], text: &mut [u8]) -> Gathered
     g
 }
 
-// Where a read or a write failed words on standard error say so. Nothing is said of a text that was not read to its end.
+// Where a read or a write failed words on standard error say so, and where a read failed nothing is said of the text.
 fn main() {
     let mut bytes = [0u8; CHUNK];
-    let mut text = [0u8; 4096];
-    let mut out = [0u8; 602];
+    let mut text = [0u8; ROOM];
+    let mut out = [0u8; ANSWER];
     let g = read_through(&mut bytes, &mut text);
     if g.unread {
         pipes::unread(b"sheet");

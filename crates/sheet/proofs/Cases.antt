@@ -1,19 +1,22 @@
 -- The definitions at written bytes; the checker computes each.
 -- Assumes nothing.
-use mathlib.Core.Path.{_≡_, refl}
+use mathlib.Core.Path.{_≡_, refl, ap}
 use mathlib.Core.List.{List, [], _∷_, _++_, map}
 use Prim.Native.Nat.{ℕ}
 use lib.IntN.{pos}
-use lib.ListN.{take, drop}
-use Rattle.settings.specs.BenchSettings.{benchSettings}
+use lib.ListN.{length, take, drop, replicate}
+use Rattle.settings.specs.BenchSettings.{benchSettings, benchWith}
 use Rattle.settings.specs.Settings.{accepted, refusal, periodOk, gainsOk, gainOk, gainsTied, tied, limitsOk, restOk}
 use Rattle.settings.specs.Words.{entries, wordsOf, settingsOf}
+use Rattle.settings.proofs.AtBench.{bench-accepted as bench-good}
 use Rattle.text.specs.Grammar.{allDigits, valueOf}
 use Rattle.writing.specs.Decimal.{decimal, countText}
 use Rattle.sheet.specs.declared.Outcome.{Outcome}
 use Rattle.sheet.specs.declared.Outcome.the-variants.{Read, Refused, Faulty}
+use Rattle.sheet.specs.declared.Wrote.the-variants.{Length, Barred, Short}
 use Rattle.values.specs.Value.{fractionDigits, fractionText, gainText, valueText}
 use Rattle.values.specs.Value.{digitsOf, zeroInFront, wholeOf, zeroBehind, thsOf, fractionOf, before, sum, gainOf, numberOf}
+use Rattle.sheet.specs.Sheet.{wrote, sheetIn}
 use Rattle.sheet.specs.Sheet.{lineText, linesText, sheetText}
 use Rattle.sheet.specs.Sheet.{starts, lineOf, firstOf, andThen, withFirst, readLines, settingsIn, linesOf, judged, outcome, readSheet}
 
@@ -89,3 +92,21 @@ unfolding sheets outcomes sheet readSheet linesOf settingsIn readLines entries f
     accepted refusal periodOk gainsOk gainOk gainsTied tied limitsOk restOk benchSettings
     numberOf gainOf wholeOf fractionOf digitsOf zeroInFront zeroBehind thsOf sum before allDigits valueOf
 sheets-read = refl
+
+-- ════ written: 122 bytes are just room for the bench set's sheet, 121 are too few, and settings that are refused come before that
+length-written : length (sheetText benchSettings) ≡ 122
+unfolding sheet
+length-written = ap length bench-written
+
+just-room : wrote benchSettings 122 ≡ Length 122
+unfolding wrote
+just-room = rw (length-written, bench-good) refl
+
+too-short : (wrote benchSettings 121 ≡ Short) × (sheetIn benchSettings (replicate 121 7) ≡ replicate 121 7)
+unfolding wrote sheetIn
+too-short = (rw (length-written, bench-good) refl, rw (length-written, bench-good) refl)
+
+-- current gains that are not tied
+refused-first : wrote (benchWith (pos 16384) (pos 512) (pos 512)) 0 ≡ Barred (pos 3)
+unfolding wrote accepted refusal periodOk gainsOk gainOk gainsTied tied
+refused-first = refl

@@ -1,4 +1,4 @@
--- Which line is the first faulty one is settled by the first 400 bytes: a good line has 25 at most.
+-- Which line is the first faulty one is settled by the first 500 bytes: a good line has 25 at most.
 -- Assumes nothing.
 use mathlib.Core.Path.{_≡_, refl, ap, sym, _∙_}
 use mathlib.Core.Bool.{Bool, true, false}
@@ -115,10 +115,10 @@ settled i n (e ∷ es) bs p k h =
         let c = cut-line e bs n w (its-free e es p k) (its-key e es p k) (omega (arith, h)) g in
         rw (c .first, c .rest, g) (ap (λ (ls : Words). withFirst i (Is w) ls) (more (c .m) (omega (arith, c .few, h))))
 
-pub lines-early : (bs : List ℕ) (n : ℕ) → 400 ≤ n → linesOf (take n bs) ≡ linesOf bs
+pub lines-early : (bs : List ℕ) (n : ℕ) → 500 ≤ n → linesOf (take n bs) ≡ linesOf bs
 unfolding linesOf
 lines-early bs n h = ap settingsIn (settled 1 n entries bs no-feeds own-short (omega (arith, h, count-entries)))
 
-pub settled-early : (bs : List ℕ) (n : ℕ) → 400 ≤ n → readSheet (take n bs) ≡ readSheet bs
+pub sheet-early : (bs : List ℕ) (n : ℕ) → 500 ≤ n → readSheet (take n bs) ≡ readSheet bs
 unfolding readSheet
-settled-early bs n h = ap outcome (lines-early bs n h)
+sheet-early bs n h = ap outcome (lines-early bs n h)

@@ -21,7 +21,7 @@ use Rattle.values.proofs.ValueLaws as value
 use Rattle.sheet.proofs.SheetLaws as law
 use Rattle.sheet.proofs.Putting.{front, barred}
 use Rattle.sheet.proofs.Sizes as sizes
-use Rattle.sheet.proofs.Early.{settled-early}
+use Rattle.sheet.proofs.Early.{sheet-early}
 
 pub one-text : is.OneText
 one-text = value.value-exact
@@ -47,8 +47,11 @@ comma-refused = law.comma-faulty
 pub refused-as-settings : is.RefusedAsSettings
 refused-as-settings = law.sheet-refused
 
-pub settled-early-too : is.SettledEarly
-settled-early-too = settled-early
+pub good-text : is.GoodText
+good-text = law.good-text
+
+pub settled-early : is.SettledEarly
+settled-early = sheet-early
 
 pub barred-first : is.BarredFirst
 barred-first s out a = let b = barred s out a in (sym (b .0), sym (b .1))

@@ -24,6 +24,8 @@ use Rattle.settings.proofs.Names.{all-in}
 use Rattle.settings.proofs.WordLaws.{settings-words}
 use Rattle.values.specs.declared.Number.{Number}
 use Rattle.values.specs.declared.Number.the-variants.{Is, Wrong}
+use Rattle.sheet.specs.declared.Found.{Found}
+use Rattle.sheet.specs.declared.Found.the-variants.{Good, Bad}
 use Rattle.sheet.specs.declared.Outcome.the-variants.{Read, Refused, Faulty}
 use Rattle.sheet.specs.declared.Wrote.the-variants.{Length, Short}
 use Rattle.values.specs.Value.{top, valueText, before, has, behind}
@@ -258,17 +260,23 @@ judged-refused s n e =
     (λ t. (t, let g = rw t at e in cc))
     (true-or-false (accepted s))
 
-lines-refused : (ls : Words) {n : ℤ} → outcome (settingsIn ls) ≡ Refused n → (zs : List ℤ) × (ls ≡ words zs) × (judged (settingsOf zs) ≡ Refused n)
-unfolding outcome settingsIn
-lines-refused (words zs) e = (zs, refl, e)
-lines-refused (faulty i) e = let z : _≡_ {A = ℕ} 0 1 = cc in absurd (omega arith)
+-- a text whose lines are all good is the text of the settings in it
+pub good-text : (bs : List ℕ) (s : Settings) → linesOf bs ≡ Good s → bs ≡ sheetText s
+unfolding linesOf settingsIn
+good-text bs s e = by (readLines 1 entries bs) refl e
+  where
+    by : (ls : Words) → readLines 1 entries bs ≡ ls → settingsIn ls ≡ Good s → bs ≡ sheetText s
+    by (words zs) g e = let z : settingsOf zs ≡ s = cc in lines-text bs g ∙ ap sheetText z
+    by (faulty i) g e = let z : _≡_ {A = ℕ} 0 1 = cc in absurd (omega arith)
 
-pub sheet-refused : (bs : List ℕ) (n : ℤ) → readSheet bs ≡ Refused n → (s : Settings) × (bs ≡ sheetText s) × (accepted s ≡ false) × (refusal s ≡ n)
-unfolding readSheet linesOf
-sheet-refused bs n e =
-    let r = lines-refused (readLines 1 entries bs) e in
-    let j = judged-refused (settingsOf (r .0)) n (r .2) in
-    (settingsOf (r .0), lines-text bs (r .1), j .0, j .1)
+-- and those settings are refused with the number that is given
+pub sheet-refused : (bs : List ℕ) (n : ℤ) → (readSheet bs ≡ Refused n) ↔ ((s : Settings) × (linesOf bs ≡ Good s) × (accepted s ≡ false) × (refusal s ≡ n))
+unfolding readSheet outcome judged
+sheet-refused bs n = (λ e. by (linesOf bs) refl e, λ h. rw (h .1, h .2, h .3) refl)
+  where
+    by : (f : Found) → linesOf bs ≡ f → outcome f ≡ Refused n → (s : Settings) × (linesOf bs ≡ Good s) × (accepted s ≡ false) × (refusal s ≡ n)
+    by (Good s) g e = let j = judged-refused s n e in (s, g, j .0, j .1)
+    by (Bad i) g e = let z : _≡_ {A = ℕ} 0 1 = cc in absurd (omega arith)
 
 -- ════ commas
 free-feed : (b : ℕ) → (10 ≡ b → ⊥) → free b (10 ∷ []) ≡ true

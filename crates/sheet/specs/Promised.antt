@@ -10,11 +10,12 @@ use Rattle.settings.specs.declared.Settings.{Settings}
 use Rattle.settings.specs.Settings.{accepted, refusal}
 use Rattle.settings.specs.Words.{entries}
 use Rattle.values.specs.declared.Number.the-variants.{Is}
+use Rattle.sheet.specs.declared.Found.the-variants.{Good}
 use Rattle.sheet.specs.declared.Outcome.{Outcome}
 use Rattle.sheet.specs.declared.Outcome.the-variants.{Read, Refused, Faulty}
 use Rattle.sheet.specs.declared.Wrote.the-variants.{Length, Barred, Short}
 use Rattle.values.specs.Value.{valueText, numberOf}
-use Rattle.sheet.specs.Sheet.{sheetText, readSheet, wrote, sheetIn}
+use Rattle.sheet.specs.Sheet.{sheetText, linesOf, readSheet, wrote, sheetIn}
 use Rattle.values.specs.Value.{top}
 use Rattle.sheet.specs.Faults.{FirstFault}
 use Rattle.sheet.specs.Calls.{readingOf}
@@ -49,13 +50,17 @@ LineInRange = (bs : List ℕ) (j : ℕ) → readSheet bs ≡ Faulty j → (1 ≤
 abbrev pub CommaRefused : Type 0
 CommaRefused = (xs ys : List ℕ) → (j : ℕ) × (readSheet (xs ++ (44 ∷ ys)) ≡ Faulty j)
 
--- numbers 1 to 5 are given only where every line is good, and then as settings are refused
+-- numbers 1 to 5 are given exactly where every line is good, and the settings that stand in them are refused with that number
 abbrev pub RefusedAsSettings : Type 0
-RefusedAsSettings = (bs : List ℕ) (n : ℤ) → readSheet bs ≡ Refused n → (s : Settings) × (bs ≡ sheetText s) × (accepted s ≡ false) × (refusal s ≡ n)
+RefusedAsSettings = (bs : List ℕ) (n : ℤ) → (readSheet bs ≡ Refused n) ↔ ((s : Settings) × (linesOf bs ≡ Good s) × (accepted s ≡ false) × (refusal s ≡ n))
 
--- what stands behind the first 400 bytes changes nothing, as long as something does
+-- a text whose lines are all good is the text of the settings in it
+abbrev pub GoodText : Type 0
+GoodText = (bs : List ℕ) (s : Settings) → linesOf bs ≡ Good s → bs ≡ sheetText s
+
+-- what stands behind the first 500 bytes changes nothing
 abbrev pub SettledEarly : Type 0
-SettledEarly = (bs : List ℕ) (n : ℕ) → 400 ≤ n → readSheet (take n bs) ≡ readSheet bs
+SettledEarly = (bs : List ℕ) (n : ℕ) → 500 ≤ n → readSheet (take n bs) ≡ readSheet bs
 
 -- ════ what is written
 -- refused settings come first, whatever the room is, and nothing is touched

@@ -134,7 +134,7 @@ fn judge(s: Settings) -> Outcome
     }
 }
 
-// A sheet is read.
+// Reading comes first, and the settings are judged as they stand: a word out of range has no line.
 pub fn read(text: &[u8]) -> Outcome
     ensures { λ r. ⌜ r ≡ readSheet (now (text .entry)) ⌝ }
 {
@@ -186,7 +186,7 @@ fn write_accepted(s: Settings, out: &mut [u8]) -> Wrote
     Wrote::Length(end)
 }
 
-// A sheet is written.
+// Settings that are refused come before any question of room.
 pub fn write(s: Settings, out: &mut [u8]) -> Wrote
     ensures { λ r. ⌜ (r ≡ wrote s (length (now (out .entry)))) × (now (out .exit) ≡ sheetIn s (now (out .entry))) ⌝ }
 {
