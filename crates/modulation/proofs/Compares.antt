@@ -4,15 +4,14 @@
 -- Assumes nothing.
 use mathlib.Core.Path.{_≡_, sym, _∙_}
 use mathlib.Core.Bool.{false}
-use Prim.Native.Nat.{ℕ, zero, suc}
+use Prim.Native.Nat.{ℕ, zero, suc, _<_}
 use native.Mathlib.Omega.{arith}
 use lib.Dec.{lit<}
-use lib.IntN.{ℤ, pos, negℤ, _+ℤ_, _-ℤ_, _*ℤ_}
+use lib.IntN.{ℤ, pos, negsuc, negℤ, natAbs, _+ℤ_, _-ℤ_, _*ℤ_}
 use lib.Signed.{_≤ℤ_, _<ℤ_, ltZ-yes}
 use Rattle.fixed.specs.Fixed.{down}
 use Rattle.fixed.proofs.Parts.{order, diffs, is-diff, parts-+, parts--, P-neg, N-neg}
 use Rattle.fixed.proofs.Ring.{*-nonneg}
-use Rattle.fixed.proofs.Size.{abs←}
 use Rattle.fixed.proofs.DownLaws.{down-low, down-high, down-low-parts, down-high-parts, le-down}
 use Rattle.modulation.specs.declared.Sector.{Sector}
 use Rattle.modulation.specs.declared.Times.{Times}
@@ -75,20 +74,20 @@ abbrev unit : ℕ
 unit = 16777216
 
 -- s is m, or less than n below it; `Close`: less than 2 counts
-abbrev Short : ℕ → ℤ → ℤ → Type 0
-Short n m s = (s ≤ℤ m) × (m <ℤ (s +ℤ pos n))
+abbrev pub Short : ℤ → ℤ → ℤ → Type 0
+Short n m s = (s ≤ℤ m) × (m <ℤ (s +ℤ n))
 
 abbrev Close : ℤ → ℤ → Type 0
-Close m s = Short 33554432 m s
+Close m s = Short (pos 33554432) m s
 
 -- the rounding of a time loses less than a count
-time-short : (t e : ℤ) → Short unit (t *ℤ e) (pos unit *ℤ timeOf t e)
+time-short : (t e : ℤ) → Short (pos unit) (t *ℤ e) (pos unit *ℤ timeOf t e)
 unfolding timeOf
 time-short t e = (down-low (t *ℤ e) (pos unit) (ltZ-yes tt), down-high (t *ℤ e) (pos unit) (ltZ-yes tt))
 
 -- so that a compare and its level together come to the same at every place, but for less than 2 counts. Here the entries of the
 -- row are f and g, their times m and n, and the first compare p
-sums-close : (t f g m n p : ℤ) → Short unit (t *ℤ f) (pos unit *ℤ m) → Short unit (t *ℤ g) (pos unit *ℤ n)
+sums-close : (t f g m n p : ℤ) → Short (pos unit) (t *ℤ f) (pos unit *ℤ m) → Short (pos unit) (t *ℤ g) (pos unit *ℤ n)
     → Close (pos unit *ℤ p +ℤ t *ℤ (f +ℤ g)) (pos unit *ℤ p +ℤ t *ℤ (f +ℤ g))
     × Close (pos unit *ℤ p +ℤ t *ℤ (f +ℤ g)) (pos unit *ℤ (p +ℤ m) +ℤ t *ℤ g)
     × Close (pos unit *ℤ p +ℤ t *ℤ (f +ℤ g)) (pos unit *ℤ (p +ℤ m +ℤ n) +ℤ t *ℤ pos 0)
@@ -110,10 +109,15 @@ sum-close k t r = at k
     at (suc zero) = all .1
     at (suc (suc k)) = all .2
 
--- two compares c and d with the levels l and m, whose sums are close to the same
-apart : (t c d l m top : ℤ) → Close top (pos unit *ℤ c +ℤ t *ℤ l) → Close top (pos unit *ℤ d +ℤ t *ℤ m)
-    → (negℤ (pos 33554431) ≤ℤ (pos unit *ℤ (on t c -ℤ on t d) -ℤ t *ℤ (l -ℤ m))) × ((pos unit *ℤ (on t c -ℤ on t d) -ℤ t *ℤ (l -ℤ m)) ≤ℤ pos 33554431)
-apart t c d l m top = rw (is-diff t, is-diff c, is-diff d, is-diff l, is-diff m, is-diff top) (simp diffs (omega arith))
+-- two compares c and d with the levels l and m, whose sums are less than n below the same: the on-times differ by l − m, w counts being t
+pub apart : (w n t c d l m top : ℤ) → Short n top (w *ℤ c +ℤ t *ℤ l) → Short n top (w *ℤ d +ℤ t *ℤ m)
+    → (negℤ n <ℤ (w *ℤ (on t c -ℤ on t d) -ℤ t *ℤ (l -ℤ m))) × ((w *ℤ (on t c -ℤ on t d) -ℤ t *ℤ (l -ℤ m)) <ℤ n)
+apart w n t c d l m top =
+    rw (is-diff w, is-diff n, is-diff t, is-diff c, is-diff d, is-diff l, is-diff m, is-diff top) (simp diffs (omega arith))
+
+abs-under : (n : ℕ) (z : ℤ) → negℤ (pos n) <ℤ z → z <ℤ pos n → natAbs z < n
+abs-under n (pos k) l h = omega (arith, order)
+abs-under n (negsuc k) l h = omega (arith, order, P-neg (pos n), N-neg (pos n))
 
 -- any two places, of times that are not clipped
 pair : (t : ℤ) (r : Sector) (h : Times) (i j : ℕ) {d : ℤ} → Kept t (timeOf t (r .t1)) (timeOf t (r .t2)) h → level i r -ℤ level j r ≡ d
@@ -121,8 +125,12 @@ pair : (t : ℤ) (r : Sector) (h : Times) (i j : ℕ) {d : ℤ} → Kept t (time
 pair t r h i j {d} w e =
     let m = timeOf t (r .t1) in
     let n = timeOf t (r .t2) in
-    let a = apart t (compareAt i t m n) (compareAt j t m n) (level i r) (level j r) (sum 0 t r) (sum-close i t r) (sum-close j t r) in
-    rw (w .one, w .two, sym e) (record { near = omega (arith, abs← 33554431 _ (a .0) (a .1)) })
+    let a = apart (pos unit) (pos 33554432) t (compareAt i t m n) (compareAt j t m n) (level i r) (level j r) (sum 0 t r)
+    (sum-close i t r) (sum-close j t r) in
+    rw (w .one, w .two, sym e) (record { near = abs-under 33554432 _ (a .0) (a .1) })
+
+pub turned : (a b : ℤ) → negℤ (b -ℤ a) ≡ a -ℤ b
+turned a b = omega (arith, order, P-neg (b -ℤ a), N-neg (b -ℤ a), parts-- a b, parts-- b a)
 
 pub on-times : (t va vb : ℤ) → modulated t va vb .clipped ≡ false → AsAsked t va vb (modulated t va vb)
 unfolding modulated placed timesOf entriesOf
@@ -132,6 +140,3 @@ on-times t va vb e =
     let s = serves va vb in
     let w = kept t (timeOf t (r .t1)) (timeOf t (r .t2)) e in
     (pair t r h (r .a) (r .b) w (s .a-b ∙ turned (A va) (B vb)), pair t r h (r .b) (r .c) w (s .b-c), pair t r h (r .a) (r .c) w (s .a-c))
-  where
-    turned : (a b : ℤ) → negℤ (b -ℤ a) ≡ a -ℤ b
-    turned a b = omega (arith, order, P-neg (b -ℤ a), N-neg (b -ℤ a), parts-- a b, parts-- b a)

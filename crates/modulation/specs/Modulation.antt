@@ -1,10 +1,11 @@
 -- Space-vector modulation, as docs/RULES.md, "Modulation", has it: from a voltage (vα, vβ) and a period T to three compares.
-use Prim.Native.Nat.{ℕ, zero, suc, _+_, _≤_, _<_}
+use mathlib.Core.Path.{_≡_}
+use Prim.Native.Nat.{ℕ, zero, suc, _+_, _*_, _≤_, _<_}
 use mathlib.Core.Bool.{true, false, cond}
 use mathlib.Core.List.{List, [], _∷_}
 use lib.IntN.{ℤ, pos, negℤ, natAbs, _+ℤ_, _-ℤ_, _*ℤ_}
 use lib.ListN.{getD}
-use lib.Signed.{_≤ℤ_, ltZ}
+use lib.Signed.{_≤ℤ_, _<ℤ_, ltZ}
 use Rattle.fixed.specs.Fixed.{down}
 use Rattle.modulation.specs.declared.Entries.{Entries}
 use Rattle.modulation.specs.declared.Sector.{Sector}
@@ -84,13 +85,13 @@ sectorOf e = sectorAt (sectorNumber e) e
 unfoldable pub timeOf : ℤ → ℤ → ℤ
 timeOf t e = down (t *ℤ e) (pos 16777216)
 
--- the lesser of two
-unfoldable pub lesser : ℤ → ℤ → ℤ
-lesser a b = cond (ltZ b a) b a
+-- the share of a time x in the period, where the two times together come to s: x·T/s down
+unfoldable pub shareOf : ℤ → ℤ → ℤ → ℤ
+shareOf t s x = down (x *ℤ t) s
 
--- the clipping rule: t1 is cut to at most T, then t2 to at most T − t1
+-- the clipping rule: both times are scaled, each with the sum as it was
 unfoldable pub cut : ℤ → ℤ → ℤ → Times
-cut t t1 t2 = record { t1 = lesser t1 t; t2 = lesser t2 (t -ℤ lesser t1 t); clipped = true }
+cut t t1 t2 = record { t1 = shareOf t (t1 +ℤ t2) t1; t2 = shareOf t (t1 +ℤ t2) t2; clipped = true }
 
 -- clipped if t1 + t2 > T
 unfoldable pub clippedTimes : ℤ → ℤ → ℤ → Times
@@ -137,6 +138,37 @@ AsAsked t va vb p =
     × Near t (on t (p .b) -ℤ on t (p .c)) (pos 2 *ℤ B vb)
     × Near t (on t (p .a) -ℤ on t (p .c)) (A va +ℤ B vb)
 
+-- u is less than one count below x·t/s, and not above it
+pub record Share (t s x u : ℤ) : Type 0 where
+  pub low : (s *ℤ u) ≤ℤ (x *ℤ t)
+  pub high : (x *ℤ t) <ℤ (s *ℤ u +ℤ s)
+
+-- what clipping leaves of two times t1 and t2: together T or T − 1, each its share, and both in the proportion that they had. Exactly in
+-- proportion t1'·t2 − t2'·t1 would be 0; it is within −t2..t1
+pub record Scaled (t t1 t2 : ℤ) (h : Times) : Type 0 where
+  pub most : (h .t1 +ℤ h .t2) ≤ℤ t
+  pub least : t ≤ℤ (h .t1 +ℤ h .t2 +ℤ pos 1)
+  pub one : Share t (t1 +ℤ t2) t1 (h .t1)
+  pub two : Share t (t1 +ℤ t2) t2 (h .t2)
+  pub proportion-lo : negℤ t2 ≤ℤ (h .t1 *ℤ t2 -ℤ h .t2 *ℤ t1)
+  pub proportion-hi : (h .t1 *ℤ t2 -ℤ h .t2 *ℤ t1) ≤ℤ t1
+
+-- u is less than 2 counts from t·d/w, in whole numbers
+pub record NearShare (w t u d : ℤ) : Type 0 where
+  pub near : natAbs (w *ℤ u -ℤ t *ℤ d) < 2 * natAbs w
+
+-- W, the sum of the row's two words
+abbrev pub W : ℤ → ℤ → ℤ
+W va vb = sectorOf (entriesOf va vb) .t1 +ℤ sectorOf (entriesOf va vb) .t2
+
+-- clipped, the voltage is shortened and not turned: the times of the pulses are those asked for, scaled; and the on-time differences a − b, b − c and a − c
+-- are near A − B, 2B and A + B, each times T/W
+pub record Shortened (t va vb : ℤ) (p : Pulses) : Type 0 where
+  pub times : let r = sectorOf (entriesOf va vb) in (p ≡ placed t r (timesOf t r)) × Scaled t (timeOf t (r .t1)) (timeOf t (r .t2)) (timesOf t r)
+  pub a-b : NearShare (W va vb) t (on t (p .a) -ℤ on t (p .b)) (A va -ℤ B vb)
+  pub b-c : NearShare (W va vb) t (on t (p .b) -ℤ on t (p .c)) (pos 2 *ℤ B vb)
+  pub a-c : NearShare (W va vb) t (on t (p .a) -ℤ on t (p .c)) (A va +ℤ B vb)
+
 -- ════ what the code asks of its numbers
 pub record Period (t : ℤ) : Type 0 where
   pub up : pos 0 ≤ℤ t
@@ -146,6 +178,11 @@ pub record Small (e : Entries) : Type 0 where
   pub x : natAbs (e .x) ≤ entryEnd
   pub y : natAbs (e .y) ≤ entryEnd
   pub z : natAbs (e .z) ≤ entryEnd
+
+-- a time, before clipping
+pub record Time (x : ℤ) : Type 0 where
+  pub up : pos 0 ≤ℤ x
+  pub size : natAbs x ≤ 100000
 
 -- times that have room in the period: what clipping leaves
 pub record Room (t : ℤ) (h : Times) : Type 0 where

@@ -2,6 +2,7 @@
 ghost use mathlib.Core.Path.{_≡_};
 ghost use Prim.Native.Nat.{_≤_};
 ghost use lib.IntN.{natAbs};
+ghost use lib.Signed.{_<ℤ_, _≤ℤ_};
 ghost use Rattle.modulation.specs.Modulation.{
   entriesOf,
   bit as bitOf,
@@ -10,6 +11,7 @@ ghost use Rattle.modulation.specs.Modulation.{
   sectorAt,
   sectorOf,
   timeOf,
+  shareOf,
   clippedTimes,
   timesOf,
   compareAt,
@@ -19,6 +21,7 @@ ghost use Rattle.modulation.specs.Modulation.{
   entryEnd,
   Period,
   Small,
+  Time,
   Room,
 };
 
@@ -114,15 +117,25 @@ fn time(t: i32, e: i32) -> i32
     fixed::scaled(t, e, 16777216) as i32
 }
 
-// The clipping rule; the period is not negative, so that what is kept of the two times has room in it.
+// The share of a time x in the period t, where the two times together come to `sum`, which is more. None of the three is negative, and
+// the product has 32 bits without a sign: on a small processor that is one multiplication and one division.
+fn share(t: i32, sum: i32, x: i32) -> i32
+    requires { ⌜ Period t × Time x × (t <ℤ sum) × (x ≤ℤ sum) ⌝ }
+    ensures { λ r. ⌜ r ≡ shareOf t sum x ⌝ }
+{
+    let product = (x as u32) * (t as u32);
+    (product / (sum as u32)) as i32
+}
+
+// The clipping rule: both times keep their proportion, and so the voltage its angle.
 fn clip(t: i32, t1: i32, t2: i32) -> Times
-    requires { ⌜ Period t × (natAbs t1 ≤ 100000) × (natAbs t2 ≤ 100000) ⌝ }
+    requires { ⌜ Period t × Time t1 × Time t2 ⌝ }
     ensures { λ r. ⌜ r ≡ clippedTimes t t1 t2 ⌝ }
 {
-    if t < t1 + t2 {
-        let first = if t < t1 { t } else { t1 };
-        let room = t - first;
-        let second = if room < t2 { room } else { t2 };
+    let sum = t1 + t2;
+    if t < sum {
+        let first = share(t, sum, t1);
+        let second = share(t, sum, t2);
         Times {
             t1: first,
             t2: second,

@@ -10,7 +10,7 @@ use Rattle.modulation.specs.declared.Entries.{Entries}
 use Rattle.modulation.specs.declared.Sector.{Sector}
 use Rattle.modulation.specs.Modulation.{entriesOf, sectorNumber, sectorOf, timeOf, clippedTimes, timesOf, placed, modulated, longest, entryEnd, Small}
 use Rattle.modulation.proofs.Sizes.{Sized, entries-small, sector-sized, time-size}
-use Rattle.modulation.proofs.Compares.{times-room}
+use Rattle.modulation.proofs.Compares.{times-up, times-room}
 use Rattle.modulation.proofs.modulate.Statement.{statement}
 use Rattle.modulation.proofs.modulate.Tie as tie
 
@@ -89,7 +89,10 @@ time-requires-2 c κs =
 clip-requires : tie.Need-clip-requires
 clip-requires c κs =
     let s = c .before .before .before .before .before .before .before in
-    rw (period s .is) (s .pre .0, bound (time-one (c .before .before)) tt, bound (time-two c) tt)
+    let u = times-up (s .args .t) (s .args .va) (s .args .vb) (s .pre .0 .up) in
+    let one = time-one (c .before .before) in
+    let two = time-two c in
+    rw (period s .is, one .is, two .is) (s .pre .0, record { up = u .0; size = one .size }, record { up = u .1; size = two .size })
 
 place-requires : tie.Need-place-requires
 place-requires c κs =

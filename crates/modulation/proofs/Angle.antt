@@ -1,0 +1,125 @@
+-- Clipped, the voltage is shortened and not turned (`shortened`): the times are those asked for, scaled, and the on-times differ by what the voltage asks,
+-- times T/W, to less than 2 counts; for every period and every voltage. The table enters by `serves` alone, the clipping rule by its laws.
+-- Assumes nothing.
+use mathlib.Core.Path.{_≡_, refl, ap, subst, sym, _∙_}
+use mathlib.Core.Bool.{true}
+use Prim.Native.Nat.{ℕ, zero, suc, _+_, _*_, _/_, _<_}
+use native.Mathlib.Omega.{arith}
+use lib.Dec.{lit<}
+use lib.IntN.{ℤ, pos, negsuc, negℤ, natAbs, _+ℤ_, _-ℤ_, _*ℤ_}
+use lib.Signed.{_≤ℤ_, _<ℤ_}
+use Rattle.fixed.specs.Fixed.{down}
+use Rattle.fixed.proofs.Parts.{order, diffs, is-diff, parts-+, P-neg, N-neg}
+use Rattle.fixed.proofs.Ring.{*-+}
+use Rattle.fixed.proofs.Size.{abs-parts}
+use Rattle.modulation.specs.declared.Sector.{Sector}
+use Rattle.modulation.specs.declared.Times.{Times}
+use Rattle.modulation.specs.Modulation.{A, B, W, entriesOf, sectorOf, timeOf, cut, timesOf, compareAt, placed, modulated}
+use Rattle.modulation.specs.Modulation.{on, Scaled, NearShare, Shortened}
+use Rattle.modulation.proofs.Sectors.{level, serves}
+use Rattle.modulation.proofs.Shares.{Asked, part, words, one-most, one-least, both-most, both-least}
+use Rattle.modulation.proofs.Clipping.{Cut, Parts, cut-parts, cut-scaled, scaled}
+use Rattle.modulation.proofs.Compares.{Short, apart, turned, times-up}
+
+-- ════ the shares of the times that the words f and g ask for, a and b
+record Bounds (t f g a b : ℤ) : Type 0 where
+  pub some : pos 0 <ℤ (f +ℤ g)
+  pub first : pos 0 ≤ℤ f
+  pub second : pos 0 ≤ℤ g
+  pub one-most : ((f +ℤ g) *ℤ a) ≤ℤ (t *ℤ f +ℤ f)
+  pub one-least : (t *ℤ f) <ℤ ((f +ℤ g) *ℤ a +ℤ (f +ℤ g) +ℤ g)
+  pub both-most : ((f +ℤ g) *ℤ (a +ℤ b)) ≤ℤ (t *ℤ (f +ℤ g))
+  pub both-least : (t *ℤ (f +ℤ g)) <ℤ ((f +ℤ g) *ℤ (a +ℤ b) +ℤ (f +ℤ g) +ℤ g)
+
+abbrev unit : ℕ
+unit = 16777216
+
+bounds-of : (t f g a b : ℕ) → Asked unit t f g (t * f / unit) (t * g / unit) a b → Bounds (pos t) (pos f) (pos g) (pos a) (pos b)
+bounds-of t f g a b h =
+    let m = t * f / unit in
+    let n = t * g / unit in
+    record {
+      some = omega (arith, order, words unit t f g m n a b h);
+      first = omega (arith, order);
+      second = omega (arith, order);
+      one-most = omega (arith, order, one-most unit t f g m n a b h);
+      one-least = omega (arith, order, one-least unit t f g m n a b h);
+      both-most = omega (arith, order, both-most unit t f g m n a b h);
+      both-least = omega (arith, order, both-least unit t f g m n a b h);
+    }
+
+bounds : (t f g : ℤ) → pos 0 ≤ℤ t → pos 0 ≤ℤ f → pos 0 ≤ℤ g → t <ℤ (timeOf t f +ℤ timeOf t g)
+    → let h = cut t (timeOf t f) (timeOf t g) in Bounds t f g (h .t1) (h .t2)
+unfolding timeOf down
+bounds (pos t) (pos f) (pos g) ht hf hg o =
+    let m = t * f / unit in
+    let n = t * g / unit in
+    let over : t < m + n = omega (arith, order) in
+    let p = cut-parts t m n (omega arith) in
+    let asked : Asked unit t f g m n (p .a) (p .b) = record { unit = lit< tt; first = part (t * f) unit (lit< tt); second = part (t * g) unit (lit< tt); over = omega arith; shares = p .shares } in
+    rw (p .one, p .two) (bounds-of t f g (p .a) (p .b) asked)
+bounds (negsuc t) f g ht hf hg o = absurd (ht .le)
+bounds (pos t) (negsuc f) g ht hf hg o = absurd (hf .le)
+bounds (pos t) (pos f) (negsuc g) ht hf hg o = absurd (hg .le)
+
+-- ════ so a compare and its level together come to the same at every place, but for less than 2 counts; p is the first compare, and w is f + g
+at-first : (w f s : ℤ) → pos 0 ≤ℤ f → f <ℤ (w +ℤ w) → Short (w +ℤ w) (s +ℤ f) s
+at-first w f s h k = omega (arith, order, parts-+ w w, parts-+ s f, parts-+ s (w +ℤ w))
+
+at-second : (t w f g a p : ℤ) → t *ℤ w ≡ t *ℤ f +ℤ t *ℤ g → w ≡ f +ℤ g → (w *ℤ a) ≤ℤ (t *ℤ f +ℤ f) → (t *ℤ f) <ℤ (w *ℤ a +ℤ w +ℤ g)
+    → Short (w +ℤ w) (w *ℤ p +ℤ t *ℤ w +ℤ f) (w *ℤ (p +ℤ a) +ℤ t *ℤ g)
+at-second t w f g a p = rw (is-diff t, is-diff w, is-diff f, is-diff g, is-diff a, is-diff p) (simp diffs (omega arith))
+
+at-third : (t w f g c p : ℤ) → w ≡ f +ℤ g → pos 0 ≤ℤ f → (w *ℤ c) ≤ℤ (t *ℤ w) → (t *ℤ w) <ℤ (w *ℤ c +ℤ w +ℤ g)
+    → Short (w +ℤ w) (w *ℤ p +ℤ t *ℤ w +ℤ f) (w *ℤ (p +ℤ c) +ℤ t *ℤ pos 0)
+at-third t w f g c p = rw (is-diff t, is-diff w, is-diff f, is-diff g, is-diff c, is-diff p) (simp diffs (omega arith))
+
+abbrev wide : Sector → ℤ
+wide r = (r .t1 +ℤ r .t2) +ℤ (r .t1 +ℤ r .t2)
+
+abbrev sum : ℕ → ℤ → Sector → Times → ℤ
+sum k t r h = (r .t1 +ℤ r .t2) *ℤ compareAt k t (h .t1) (h .t2) +ℤ t *ℤ level k r
+
+sum-close : (k : ℕ) (t : ℤ) (r : Sector) (h : Times) → Bounds t (r .t1) (r .t2) (h .t1) (h .t2) → Short (wide r) (sum 0 t r h +ℤ r .t1) (sum k t r h)
+unfolding compareAt
+sum-close k t r h q = at k
+  where
+    sums : (p a b : ℤ) → p +ℤ (a +ℤ b) ≡ p +ℤ a +ℤ b
+    sums p a b = omega (arith, order, parts-+ p a, parts-+ a b, parts-+ p (a +ℤ b), parts-+ (p +ℤ a) b)
+
+    at : (k : ℕ) → Short (wide r) (sum 0 t r h +ℤ r .t1) (sum k t r h)
+    at zero = at-first (r .t1 +ℤ r .t2) (r .t1) (sum 0 t r h) (q .first) (omega (arith, order, q .some, q .second, parts-+ (r .t1) (r .t2), parts-+ (r .t1 +ℤ r .t2) (r .t1 +ℤ r .t2)))
+    at (suc zero) = at-second t (r .t1 +ℤ r .t2) (r .t1) (r .t2) (h .t1) (compareAt 0 t (h .t1) (h .t2)) (*-+ t (r .t1) (r .t2)) refl (q .one-most) (q .one-least)
+    at (suc (suc k)) =
+        subst (λ (c : ℤ). Short (wide r) (sum 0 t r h +ℤ r .t1) ((r .t1 +ℤ r .t2) *ℤ c +ℤ t *ℤ pos 0)) (sums (compareAt 0 t (h .t1) (h .t2)) (h .t1) (h .t2))
+        (at-third t (r .t1 +ℤ r .t2) (r .t1) (r .t2) (h .t1 +ℤ h .t2) (compareAt 0 t (h .t1) (h .t2)) refl (q .first) (q .both-most) (q .both-least))
+
+-- any two places
+within-wide : (w z : ℤ) → negℤ (w +ℤ w) <ℤ z → z <ℤ (w +ℤ w) → natAbs z < 2 * natAbs w
+within-wide w (pos n) l h = omega (arith, order, abs-parts w, parts-+ w w)
+within-wide w (negsuc n) l h = omega (arith, order, abs-parts w, parts-+ w w, P-neg (w +ℤ w), N-neg (w +ℤ w))
+
+pair : (t : ℤ) (r : Sector) (h : Times) (i j : ℕ) {d : ℤ} → Bounds t (r .t1) (r .t2) (h .t1) (h .t2) → level i r -ℤ level j r ≡ d
+    → NearShare (r .t1 +ℤ r .t2) t (on t (compareAt i t (h .t1) (h .t2)) -ℤ on t (compareAt j t (h .t1) (h .t2))) d
+pair t r h i j {d} q e =
+    let w = r .t1 +ℤ r .t2 in
+    let a = apart w (w +ℤ w) t (compareAt i t (h .t1) (h .t2)) (compareAt j t (h .t1) (h .t2)) (level i r) (level j r) (sum 0 t r h +ℤ r .t1)
+    (sum-close i t r h q) (sum-close j t r h q) in
+    rw (sym e) (record { near = within-wide w _ (a .0) (a .1) })
+
+pub shortened : (t va vb : ℤ) → pos 0 ≤ℤ t → modulated t va vb .clipped ≡ true → Shortened t va vb (modulated t va vb)
+unfolding modulated placed timesOf entriesOf
+shortened t va vb up e =
+    let r = sectorOf (entriesOf va vb) in
+    let h = timesOf t r in
+    let s = serves va vb in
+    let u = times-up t va vb up in
+    let c = scaled t (timeOf t (r .t1)) (timeOf t (r .t2)) e in
+    let q : Bounds t (r .t1) (r .t2) (h .t1) (h .t2) =
+    subst (λ (k : Times). Bounds t (r .t1) (r .t2) (k .t1) (k .t2)) (sym (c .is)) (bounds t (r .t1) (r .t2) up (s .one) (s .two) (c .over)) in
+    record {
+      times = (refl, subst (Scaled t (timeOf t (r .t1)) (timeOf t (r .t2))) (sym (c .is)) (cut-scaled t _ _ up (u .0) (u .1) (c .over)));
+      a-b = pair t r h (r .a) (r .b) q (s .a-b ∙ turned (A va) (B vb));
+      b-c = pair t r h (r .b) (r .c) q (s .b-c);
+      a-c = pair t r h (r .a) (r .c) q (s .a-c);
+    }

@@ -1,0 +1,95 @@
+-- The arithmetic of clipping, over the naturals: the shares a and b that two times m and n have in a period t, and how they stand to the words f and g
+-- that the times come from. A quotient rounded down is given by its two bounds, `Part`.
+-- Assumes nothing.
+use Prim.Native.Nat.{ℕ, zero, suc, _+_, _*_, _/_, _≤_, _<_}
+use native.Mathlib.Nat.{div-add-mod, mod-lt, mul-le-mul-left, lt-of-mul-lt-mul-left}
+use native.Mathlib.Omega.{arith}
+
+-- q is n/d rounded down
+pub record Part (n d q : ℕ) : Type 0 where
+  pub low : d * q ≤ n
+  pub high : n < d * q + d
+
+pub part : (n d : ℕ) → 0 < d → Part n d (n / d)
+part n d h = record { low = omega (arith, div-add-mod n d); high = omega (arith, div-add-mod n d, mod-lt n h) }
+
+scale : (k : ℕ) {x y : ℕ} → x ≤ y → k * x ≤ k * y
+scale k h = mul-le-mul-left k h
+
+cancel : (k x y : ℕ) → 0 < k → k * x ≤ k * y → x ≤ y
+cancel k x y p h = let l : k * x < k * suc y = omega arith in omega (arith, lt-of-mul-lt-mul-left k l)
+
+-- ════ two shares of one sum
+pub record Shares (t m n a b : ℕ) : Type 0 where
+  pub some : 0 < m + n
+  pub one : Part (m * t) (m + n) a
+  pub two : Part (n * t) (m + n) b
+
+-- together they are t or t − 1
+pub sum-most : (t m n a b : ℕ) → Shares t m n a b → a + b ≤ t
+sum-most t m n a b h = cancel (m + n) (a + b) t (h .some) (omega (arith, h .one .low, h .two .low))
+
+pub sum-least : (t m n a b : ℕ) → Shares t m n a b → t ≤ a + b + 1
+sum-least t m n a b h =
+    let l : (m + n) * t < (m + n) * (a + b + 2) = omega (arith, h .one .high, h .two .high) in
+    omega (arith, lt-of-mul-lt-mul-left (m + n) l)
+
+-- and in the proportion of m and n: a·n − b·m is within −n..m
+pub proportion-most : (t m n a b : ℕ) → Shares t m n a b → a * n ≤ b * m + m
+proportion-most t m n a b h =
+    let k : n * t ≤ (m + n) * b + (m + n) = omega (arith, h .two .high) in
+    cancel (m + n) (a * n) (b * m + m) (h .some) (omega (arith, scale n (h .one .low), scale m k))
+
+pub proportion-least : (t m n a b : ℕ) → Shares t m n a b → b * m ≤ a * n + n
+proportion-least t m n a b h =
+    let k : m * t ≤ (m + n) * a + (m + n) = omega (arith, h .one .high) in
+    cancel (m + n) (b * m) (a * n + n) (h .some) (omega (arith, scale m (h .two .low), scale n k))
+
+-- ════ shares of what is asked: m and n are t·f/u and t·g/u rounded down, and together more than t
+pub record Asked (u t f g m n a b : ℕ) : Type 0 where
+  pub unit : 0 < u
+  pub first : Part (t * f) u m
+  pub second : Part (t * g) u n
+  pub over : t ≤ m + n
+  pub shares : Shares t m n a b
+
+-- the words are not both 0
+pub words : (u t f g m n a b : ℕ) → Asked u t f g m n a b → 0 < f + g
+words u t zero zero m n a b h =
+    let k : m ≤ 0 = cancel u m 0 (h .unit) (omega (arith, h .first .low)) in
+    let l : n ≤ 0 = cancel u n 0 (h .unit) (omega (arith, h .second .low)) in
+    omega (arith, h .shares .some)
+words u t (suc f) g m n a b h = omega arith
+words u t zero (suc g) m n a b h = omega arith
+
+-- the times are in the proportion of the words: m·g − n·f is within −g..f
+cross-most : (u t f g m n a b : ℕ) → Asked u t f g m n a b → m * g ≤ n * f + f
+cross-most u t f g m n a b h =
+    let k : t * g ≤ u * n + u = omega (arith, h .second .high) in
+    cancel u (m * g) (n * f + f) (h .unit) (omega (arith, scale g (h .first .low), scale f k))
+
+cross-least : (u t f g m n a b : ℕ) → Asked u t f g m n a b → n * f ≤ m * g + g
+cross-least u t f g m n a b h =
+    let k : t * f ≤ u * m + u = omega (arith, h .first .high) in
+    cancel u (n * f) (m * g + g) (h .unit) (omega (arith, scale f (h .second .low), scale g k))
+
+-- so that the first share is near t·f/(f + g)
+pub one-most : (u t f g m n a b : ℕ) → Asked u t f g m n a b → (f + g) * a ≤ t * f + f
+one-most u t f g m n a b h =
+    cancel (m + n) ((f + g) * a) (t * f + f) (h .shares .some)
+    (omega (arith, scale (f + g) (h .shares .one .low), scale t (cross-most u t f g m n a b h), scale f (h .over)))
+
+pub one-least : (u t f g m n a b : ℕ) → Asked u t f g m n a b → t * f < (f + g) * a + (f + g) + g
+one-least u t f g m n a b h =
+    let k : m * t + 1 ≤ (m + n) * a + (m + n) = omega (arith, h .shares .one .high) in
+    let l : (m + n) * (t * f) < (m + n) * ((f + g) * a + (f + g) + g) =
+    omega (arith, words u t f g m n a b h, scale (f + g) k, scale t (cross-least u t f g m n a b h), scale g (h .over)) in
+    lt-of-mul-lt-mul-left (m + n) l
+
+-- and both together near t
+pub both-most : (u t f g m n a b : ℕ) → Asked u t f g m n a b → (f + g) * (a + b) ≤ t * (f + g)
+both-most u t f g m n a b h = omega (arith, scale (f + g) (sum-most t m n a b (h .shares)))
+
+pub both-least : (u t f g m n a b : ℕ) → Asked u t f g m n a b → t * (f + g) < (f + g) * (a + b) + (f + g) + g
+both-least u t f zero m n a b h = omega (arith, one-least u t f zero m n a b h)
+both-least u t f (suc g) m n a b h = omega (arith, scale (f + suc g) (sum-least t m n a b (h .shares)))
