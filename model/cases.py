@@ -166,9 +166,18 @@ SLIP = [
 FLUX = [step(fine=fine, sample=(2458, 0, 0)) for fine in (4096 * 2404, 9850834, 10067913, 10067914, 4096 * 2458, 4096 * 2458 + 1)]
 FLUX += [step(fine=fine, Kr=4096, sample=(ia, 0, 0)) for fine, ia in ((-81920000, 8191), (81920000, -8191))]
 
-# At angle 0 and no error the integrals are vα and vβ.
+# At angle 0 and no error the integrals are vα and vβ: the cases of the rules; times of 160 + 440, just the period, and of 160 + 441, clipped; clipped in three
+# more sectors, where a count of the period is left over; and where none is, since 234 + 468 become 200 + 400.
 MODULATION = [step(flux_reference=0, d_integral=valpha, q_integral=vbeta)
-              for valpha, vbeta in [(4096, 4096), (2048, 2048), (4096, 0), (0, 4096), (0, 0)]]
+              for valpha, vbeta in [(4096, 4096), (2048, 2048), (4096, 0), (0, 4096), (0, 0), (3000, 3010), (3000, 3011),
+                                    (-4096, 4096), (-4096, -4096), (4096, -4096), (3700, 3200)]]
+
+# After an eighth of a turn one of vα and vβ can be beyond 4096: clipped in the two sectors that are left, and with a t2 of 0 and a t1 of 0.
+MODULATION += [step(flux_reference=0, angle=8192, d_integral=vd, q_integral=vq)
+               for vd, vq in [(4096, 3000), (-4096, -3000), (4096, -4096), (-4096, 4096)]]
+
+# The greatest voltage in the longest period.
+MODULATION += [step(T=4000, flux_reference=0, d_integral=4096, q_integral=4096)]
 
 REGULATORS = [
     step(d_integral=4096, q_integral=-4096, sample=(-8191, 4095, 0)),

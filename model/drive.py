@@ -367,10 +367,10 @@ def sector_times(n, x, y, z):
 
 def clip(t1, t2, period):
     """Both times as they are used, and whether the step is clipped."""
-    if t1 + t2 <= period:
+    s = t1 + t2
+    if s <= period:
         return t1, t2, False
-    t1 = min(t1, period)
-    return t1, min(t2, period - t1), True
+    return t1 * period // s, t2 * period // s, True
 
 
 def modulation(period, valpha, vbeta):

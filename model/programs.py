@@ -330,6 +330,49 @@ def flux():
     return text_of(place.lines)
 
 
+# examples/clipped.c
+
+def between_phases(answer):
+    """Of a less b, b less c, a less c: the differences of the on-times, and those asked for, each with the whole that it is a part of."""
+    a, b, c = answer.compares
+    alpha, beta = 3547 * answer.voltage[0], 2048 * answer.voltage[1]
+    asked = alpha - beta, 2 * beta, alpha + beta
+    whole = max(abs(difference) for difference in asked) if answer.clipped else 2 ** 24
+    return list(zip((b - a, c - b, c - a), asked)), whole
+
+
+def thousandths_away(differences, whole):
+    """How far the furthest of the three is from what was asked for."""
+    return max(1000 * abs(given * whole - drive.BENCH['T'] * asked) // whole for given, asked in differences)
+
+
+def told_step(k, answer, differences, whole):
+    period = drive.BENCH['T']
+    said = 'step %d: voltage %d %d clipped %d' % (k, *answer.voltage, answer.clipped)
+    said += ', on-times %d %d %d' % tuple(period - compare for compare in answer.compares)
+    return said + ''.join(', %s %d (%d)' % (name, given, period * asked // whole) for name, (given, asked) in zip(('a-b', 'b-c', 'a-c'), differences))
+
+
+def clipped():
+    """What examples/clipped.c writes."""
+    place = Place()
+    place.write('start %d' % place.start(drive.BENCH))
+    place.target(4096)
+    refused, away = 0, []
+    for k in range(1, 3001):
+        answer = place.step(100, -50, k * k // 16 % 65536)
+        refused += 1 if answer.number != 0 else 0
+        differences, whole = between_phases(answer)
+        if k in (1, 100, 174, 175, 600, 1200, 1500, 1700, 1900, 2000):
+            place.write(told_step(k, answer, differences, whole))
+        if answer.clipped:
+            away.append(thousandths_away(differences, whole))
+    turned = sum(1 for thousandths in away if thousandths >= 2000)
+    place.write('refused %d, clipped %d, of these with a difference 2 counts away or more %d' % (refused, len(away), turned))
+    place.write('furthest away: %d thousandths of a count' % max(away))
+    return text_of(place.lines)
+
+
 # examples/sheets.c
 
 class Workshop(Place):

@@ -10,6 +10,7 @@ import moments
 import sheet
 
 right_tick = drive.tick
+right_clip = drive.clip
 right_refusal = drive.refusal
 right_clear = drive.clear
 right_stored = moments.stored
@@ -141,8 +142,50 @@ def sample_without_its_sum(ia, ib, count):
 
 
 def clip_not_marked_at_one_over(t1, t2, period):
+    return (*right_clip(t1, t2, period)[:2], t1 + t2 > period + 1)
+
+
+def clip_marked_at_the_period(t1, t2, period):
+    return (*right_clip(t1, t2, period)[:2], t1 + t2 >= period)
+
+
+def clip_by_cutting(t1, t2, period):
+    """Room for t1 first, and for t2 what is left, which turns the voltage."""
     used1 = min(t1, period)
-    return used1, min(t2, period - used1), t1 + t2 > period + 1
+    return used1, min(t2, period - used1), t1 + t2 > period
+
+
+# The sums below are those of a clipped step, and so above 0. Some of these times do not fit the period: compares may be out of range then, which is noticed.
+
+def clip_by_the_new_sum(t1, t2, period):
+    if t1 + t2 <= period:
+        return t1, t2, False
+    used1 = t1 * period // (t1 + t2)
+    return used1, t2 * period // (used1 + t2), True
+
+
+def clip_of_the_second_alone(t1, t2, period):
+    return t1, right_clip(t1, t2, period)[1], t1 + t2 > period
+
+
+def clip_of_the_first_alone(t1, t2, period):
+    return right_clip(t1, t2, period)[0], t2, t1 + t2 > period
+
+
+def clip_with_the_rest_as_the_second(t1, t2, period):
+    """The times fill the period, also where one count of it is left over."""
+    used1, used2, clipped = right_clip(t1, t2, period)
+    return used1, (period - used1 if clipped else used2), clipped
+
+
+def clip_rounded_up(t1, t2, period):
+    s = max(t1 + t2, period)
+    return -(-t1 * period // s), -(-t2 * period // s), t1 + t2 > period
+
+
+def clip_to_the_nearest(t1, t2, period):
+    s = max(t1 + t2, period)
+    return (2 * t1 * period + s) // (2 * s), (2 * t2 * period + s) // (2 * s), t1 + t2 > period
 
 
 def sine_of_the_nearest_entry(angle):
@@ -182,6 +225,14 @@ WRONG_RULES = [
     ('7 after 6', 'step_number', step_number_with_6_first),
     ('ia + ib not looked at', 'is_refused_sample', sample_without_its_sum),
     ('clipping not marked at one count over', 'clip', clip_not_marked_at_one_over),
+    ('clipping marked where the times fill the period', 'clip', clip_marked_at_the_period),
+    ('clipping by cutting one time after the other', 'clip', clip_by_cutting),
+    ('clipping with the new sum for the second time', 'clip', clip_by_the_new_sum),
+    ('clipping of the second time alone', 'clip', clip_of_the_second_alone),
+    ('clipping of the first time alone', 'clip', clip_of_the_first_alone),
+    ('clipping with the rest as the second time', 'clip', clip_with_the_rest_as_the_second),
+    ('clipping rounded up', 'clip', clip_rounded_up),
+    ('clipping to the nearest', 'clip', clip_to_the_nearest),
     ('the sine of the nearest entry', 'sine', sine_of_the_nearest_entry),
     ('the gain law not looked at', 'refusal', refusal_without_the_gain_law),
     ('a clear that keeps the target', 'clear', clear_keeps_the_target),

@@ -17,8 +17,9 @@ use Rattle.frames.specs.Frames.{inversePark}
 use Rattle.frames.proofs.FrameLaws.{back-alpha-size, back-beta-size}
 use Rattle.shaft.specs.Shaft.{thirtieth, counted, measured}
 use Rattle.modulation.specs.declared.Pulses.{Pulses}
-use Rattle.modulation.specs.Modulation.{modulated, InPeriod, AllInPeriod, AsAsked}
+use Rattle.modulation.specs.Modulation.{modulated, InPeriod, AllInPeriod, AsAsked, Shortened}
 use Rattle.modulation.proofs.Compares.{compares-within, on-times}
+use Rattle.modulation.proofs.Angle.{shortened}
 use Rattle.drive_record.specs.declared.Drive.{Drive}
 use Rattle.fixed.proofs.Ranges.{Inside}
 use Rattle.drive_record.proofs.Ranges.{Sound, not-broken}
@@ -32,7 +33,7 @@ use Rattle.rows.proofs.Runs.{rows-sound}
 use Rattle.promises.specs.Histories.{rowAt}
 use Rattle.promises.specs.Words.{seen, issued, dError, qError, next, speedError}
 use Rattle.promises.specs.Demand3.{EachStep, EachStepAndRow, IntegralsWithin, IntegralsBetween}
-use Rattle.promises.specs.Demand3.{OutputsLeave, PulsesAsAsked, ComparesOfAnyStep, ComparesOfAnyRow}
+use Rattle.promises.specs.Demand3.{OutputsLeave, PulsesAsAsked, AngleKept, ComparesOfAnyStep, ComparesOfAnyRow}
 use Rattle.promises.proofs.Demand1.{passed, by-outcome}
 use Rattle.promises.proofs.Demand2.{step-by-the-rules}
 use Rattle.promises.proofs.Keeping.{reached-sound, turned-keeps, turned-settings, rows-settings}
@@ -212,6 +213,11 @@ module _ (d : Drive) (ia ib count : ℤ) (ok : stepped d ia ib count .number ≡
             (on-times (d .settings .t) (volts .alpha) (volts .beta) (ap (λ p. p .clipped) (sym pulses-are) ∙ e));
       }
 
+  step-angle : AngleKept d ia ib count
+  step-angle e =
+      subst (Shortened (d .settings .t) (volts .alpha) (volts .beta)) (sym pulses-are)
+      (shortened (d .settings .t) (volts .alpha) (volts .beta) (size.period d met .up) (ap (λ p. p .clipped) (sym pulses-are) ∙ e))
+
 -- ════ of every step, and so of every row: a row is a step of the drive that the rows before it leave
 pub step-and-row : (Holds : Drive → ℤ → ℤ → ℤ → Type 0) → EachStep Holds → EachStepAndRow Holds
 unfolding rowAt rowStepped
@@ -225,6 +231,9 @@ outputs-leave = step-and-row OutputsLeave step-outputs
 
 pub pulses-as-asked : EachStepAndRow PulsesAsAsked
 pulses-as-asked = step-and-row PulsesAsAsked step-pulses
+
+pub angle-kept : EachStepAndRow AngleKept
+angle-kept = step-and-row AngleKept step-angle
 
 -- ════ any history: the compares of any step, accepted or refused, and of any row of a run
 in-any-step : (d : Drive) → Sound d → (ia ib count : ℤ) → AllInPeriod (d .settings .t) (stepped d ia ib count .pulses)

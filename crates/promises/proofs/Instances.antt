@@ -1,25 +1,31 @@
 -- The instances, by the values that the crates below give at the bench: only the promises' words, the calls and the order of the rules are opened here.
 -- Assumes nothing.
 use mathlib.Core.Path.{_≡_, refl, ap}
-use mathlib.Core.Bool.{false}
+use mathlib.Core.Bool.{true, false}
 use mathlib.Core.List.{[]}
 use native.Mathlib.Omega.{arith}
 use lib.IntN.{ℤ, pos, negsuc, _-ℤ_}
 use lib.Signed.{ltZ-yes, leZ-yes}
+use Rattle.fixed.specs.Fixed.{down, held}
 use Rattle.fixed.proofs.Ranges.{Inside}
+use Rattle.regulator.specs.declared.Gains.{Gains}
+use Rattle.regulator.specs.Regulator.{sumOf, outOf, nextOf, regulated}
+use Rattle.frames.specs.Frames.{inversePark}
+use Rattle.modulation.proofs.Cases.{clipped-case}
 use Rattle.settings.proofs.Ranges.{checked-refused}
 use Rattle.drive_record.specs.Record.{targetEnd, broken}
 use Rattle.drive_record.proofs.Ranges.{not-broken}
 use Rattle.stages.specs.Step.{rampedBy, withTorque, withShaft, withCommand, commanded, rules1And2, currents, withField, outcome, rules6To9, rules3To9, advanced}
+use Rattle.stages.specs.Step.{fieldAfter, currentGains, currentRegulated, dRegulated, qRegulated, voltageOf, voltageFor}
 use Rattle.stages.proofs.AtBench as value
-use Rattle.drive.specs.Calls.{fresh, withTrip, retargeted, withTarget}
+use Rattle.drive.specs.Calls.{fresh, withTrip, retargeted, withTarget, stepped}
 use Rattle.drive.proofs.CallLaws.{refused-broken}
 use Rattle.drive.proofs.Kept.{trip-sound, target-sound}
 use Rattle.drive.proofs.AtBench.{bench-sound, bench-intact, targets, once, first}
 use Rattle.rows.specs.Rows.{rowStepped, isAccepted, noRows, ranOf, rowsFit}
 use Rattle.promises.specs.Histories.{afterCall, afterCalls, rowAt, Quiet, stepsIn, stepsOf, clears, NoClear}
 use Rattle.promises.specs.Words.{seen, dError, qError, next, speedError}
-use Rattle.promises.specs.Instances.{rested, waiting, untied, spoiled, TablesMet, Taken, StepsMet, TicksMet, HistoryMet, quiet, QuietMet}
+use Rattle.promises.specs.Instances.{rested, waiting, untied, spoiled, TablesMet, Taken, StepsMet, pressed, ClippedMet, TicksMet, HistoryMet, quiet, QuietMet}
 use Rattle.ring.specs.Ring.{inRange, placeIn, rowsIn, placeAfter, oneMore, oldestFirst}
 use Rattle.stages.specs.declared.Stepped.{Stepped}
 use Rattle.moments.specs.Moments.{none, realRows, put, rowAt as momentRow, momentAt, rowOf, kept, recorded}
@@ -52,6 +58,48 @@ steps-met = record {
   negative = rw (value.start .0, value.bench-is, value.sine-at-0, value.cosine-at-0, value.seen .1) (ltZ-yes tt, ltZ-yes tt);
   back = step-table rested (negsuc 2999) (pos 0) (pos 0) .given 3 .1 (bench-intact, (refl, (value.samples .2, tt)));
   worth = rw (value.start .0, value.bench-is, value.sine-at-0, value.cosine-at-0, value.seen .2) (leZ-yes tt, leZ-yes tt);
+}
+
+-- ════ a step that is clipped: both current regulators give all that they may, from the end of their integrals
+abbrev bench : Gains
+bench = record { kp = pos 4096; kcor = pos 256; ki = pos 256 }
+
+full : (regulated (pos 4096) (pos 2458) bench (pos 4096) ≡ record { out = pos 4096; x = pos 4096 })
+    × (regulated (pos 4096) (pos 0) bench (pos 4096) ≡ record { out = pos 4096; x = pos 4096 })
+    × (inversePark (record { d = pos 4096; q = pos 4096 }) (pos 0) (pos 4096) ≡ record { alpha = pos 4096; beta = pos 4096 })
+unfolding regulated outOf nextOf sumOf inversePark down held
+full = (refl, refl, refl)
+
+pressed-intact : broken pressed ≡ false
+unfolding pressed withField fresh
+pressed-intact =
+    let h = bench-sound in
+    not-broken pressed .1
+    (record {
+      settings = h .settings;
+      shaft = h .shaft;
+      command = h .command;
+      field = h .field;
+      integrals = rw value.bench-is (record { speed = refl; d = refl; q = refl });
+    })
+
+pressed-step : stepped pressed (pos 0) (pos 0) (pos 0) ≡ record {
+  drive = withField (withShaft pressed (value.standing (pos 1))) (pressed .field) (pressed .integrals);
+  number = pos 0;
+  pulses = record { a = pos 0; b = pos 160; c = pos 599; clipped = true };
+  voltage = record { alpha = pos 4096; beta = pos 4096 };
+}
+unfolding pressed stepped advanced rules3To9 rules6To9 outcome withField fieldAfter voltageFor voltageOf dRegulated qRegulated currentRegulated currentGains
+    rules1And2 withShaft currents fresh
+pressed-step =
+    rw (pressed-intact, value.samples .0, value.bench-is, value.start .0, value.start .1, value.sine-at-0, value.cosine-at-0, value.seen .0)
+    (rw (full .0, full .1, full .2, clipped-case, value.stays-still))
+
+pub clipped-met : ClippedMet
+clipped-met = record {
+  taken = ap (λ s. s .number) pressed-step;
+  pulses = ap (λ s. s .pulses) pressed-step;
+  voltage = ap (λ s. s .voltage) pressed-step;
 }
 
 -- ════ ticks, with a target t

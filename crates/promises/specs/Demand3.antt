@@ -10,7 +10,7 @@ use Rattle.fixed.specs.Fixed.{Between, inside}
 use Rattle.sine.specs.Sine.{sineAt, cosineAt}
 use Rattle.frames.specs.Frames.{inversePark}
 use Rattle.shaft.specs.Shaft.{thirtieth}
-use Rattle.modulation.specs.Modulation.{AllInPeriod, AsAsked}
+use Rattle.modulation.specs.Modulation.{AllInPeriod, AsAsked, Shortened}
 use Rattle.drive_record.specs.declared.Drive.{Drive}
 use Rattle.drive.specs.Calls.{stepped}
 use Rattle.rows.specs.Rows.{ranOf}
@@ -65,6 +65,11 @@ pub record PulsesAsAsked (d : Drive) (ia ib count : ℤ) : Type 0 where
   pub in-period : AllInPeriod (d .settings .t) (stepped d ia ib count .pulses)
   pub near : stepped d ia ib count .pulses .clipped ≡ false
       → let s = stepped d ia ib count in AsAsked (d .settings .t) (s .voltage .alpha) (s .voltage .beta) (s .pulses)
+
+-- ════ clipped, the voltage is shortened and not turned
+abbrev pub AngleKept : Drive → ℤ → ℤ → ℤ → Type 0
+AngleKept d ia ib count =
+    let s = stepped d ia ib count in s .pulses .clipped ≡ true → Shortened (d .settings .t) (s .voltage .alpha) (s .voltage .beta) (s .pulses)
 
 -- ════ compares within 0..T, over any history, in every step and row, refused ones too
 abbrev pub ComparesOfAnyStep : Type 0

@@ -82,6 +82,15 @@ pub record StepsMet : Type 0 where
       (pos 4096 ≤ℤ (dError rested (negsuc 2999) (pos 0) (pos 0) *ℤ rested .settings .ckp))
       × (pos 4096 ≤ℤ (qError rested (negsuc 2999) (pos 0) (pos 0) *ℤ rested .settings .ckp))
 
+-- and one that is clipped, at the end of both current integrals: the voltage is the one of docs/RULES.md, "Cases to hold a drive to"
+unfoldable pub pressed : Drive
+pressed = withField rested (rested .field) (record { speed = pos 0; d = pos 4096; q = pos 4096 })
+
+pub record ClippedMet : Type 0 where
+  pub taken : Taken pressed (pos 0)
+  pub pulses : stepped pressed (pos 0) (pos 0) (pos 0) .pulses ≡ record { a = pos 0; b = pos 160; c = pos 599; clipped = true }
+  pub voltage : stepped pressed (pos 0) (pos 0) (pos 0) .voltage ≡ record { alpha = pos 4096; beta = pos 4096 }
+
 -- ticks: one with the speed's error negative, one with it worth a count; and a row that is one
 pub record TicksMet : Type 0 where
   pub down : Taken (waiting (negsuc 99)) (pos 0) × (thirtieth (waiting (negsuc 99) .shaft) ≡ true)

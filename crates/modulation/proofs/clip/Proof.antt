@@ -1,10 +1,11 @@
 -- `modulation::clip` meets its contract: clipped or not by the test that the code made, and the two shares are the definition's.
 -- Assumes nothing.
 use mathlib.Core.Path.{_≡_, ap₂, sym, _∙_}
-use mathlib.Core.Bool.{Bool}
+use mathlib.Core.Bool.{Bool, true}
+use Prim.Native.Nat.{ℕ, _^_, _<_}
 use native.Mathlib.Omega.{arith}
 use lib.IntN.{ℤ, _+ℤ_}
-use lib.Signed.{ltZ, _≤ℤ_, _<ℤ_}
+use lib.Signed.{_<ℤ_, mag, ltZ}
 use mir.Syntax.{w32}
 use Rattle.fixed.proofs.Equal.{ap₃}
 use Rattle.fixed.proofs.Parts.{order, parts-+}
@@ -46,14 +47,19 @@ share-requires-2 c κs =
     rw (period s .is, sum s .is, two s .is)
     (s .pre .0, s .pre .2, over (c .before), omega (arith, order, s .pre .1 .up, parts-+ (s .args .t1) (s .args .t2)))
 
+-- what `share` gave of a reading, in a local
+shared : (s : tie.Start) {r u x : ℤ} {m : ℕ} → mag r < 2 ^ 31 → r ≡ shareOf (m32 (s .args .t)) (m32 (m32 (s .args .t1) +ℤ m32 (s .args .t2))) u → Reads u x m
+    → m32 r ≡ shareOf (s .args .t) (s .args .t1 +ℤ s .args .t2) x
+shared s ok is r = answer w32 ok .is ∙ is ∙ ap₃ shareOf (period s .is) (sum s .is) (r .is)
+
 returns : tie.Need-returns
 unfolding clippedTimes cut
 returns c =
     let k = c .before in
     let s = k .before .before in
-    let first = answer w32 (k .share .ok) .is ∙ k .share .ensures ∙ ap₃ shareOf (period s .is) (sum s .is) (one s .is) in
-    let second = answer w32 (c .share2 .ok) .is ∙ c .share2 .ensures ∙ ap₃ shareOf (period s .is) (sum s .is) (two s .is) in
-    rw (← clipped-by s (k .before .if1 .taken), first, second)
+    ap₂ (λ (a b : ℤ). record { t1 = a; t2 = b; clipped = true }) (shared s (k .share .ok) (k .share .ensures) (one s))
+    (shared s (c .share2 .ok) (c .share2 .ensures) (two s))
+    ∙ rw (← clipped-by s (k .before .if1 .taken))
 
 returns-2 : tie.Need-returns-2
 unfolding clippedTimes
