@@ -1,7 +1,7 @@
 -- Clipped, the voltage is shortened and not turned (`shortened`): the times are those asked for, scaled, and the on-times differ by what the voltage asks,
 -- times T/W, to less than 2 counts; for every period and every voltage. The table enters by `serves` alone, the clipping rule by its laws.
 -- Assumes nothing.
-use mathlib.Core.Path.{_≡_, refl, ap, subst, sym, _∙_}
+use mathlib.Core.Path.{_≡_, refl, subst, sym, _∙_}
 use mathlib.Core.Bool.{true}
 use Prim.Native.Nat.{ℕ, zero, suc, _+_, _*_, _/_, _<_}
 use native.Mathlib.Omega.{arith}
@@ -14,11 +14,11 @@ use Rattle.fixed.proofs.Ring.{*-+}
 use Rattle.fixed.proofs.Size.{abs-parts}
 use Rattle.modulation.specs.declared.Sector.{Sector}
 use Rattle.modulation.specs.declared.Times.{Times}
-use Rattle.modulation.specs.Modulation.{A, B, W, entriesOf, sectorOf, timeOf, cut, timesOf, compareAt, placed, modulated}
+use Rattle.modulation.specs.Modulation.{A, B, entriesOf, sectorOf, timeOf, cut, timesOf, compareAt, placed, modulated}
 use Rattle.modulation.specs.Modulation.{on, Scaled, NearShare, Shortened}
 use Rattle.modulation.proofs.Sectors.{level, serves}
-use Rattle.modulation.proofs.Shares.{Asked, part, words, one-most, one-least, both-most, both-least}
-use Rattle.modulation.proofs.Clipping.{Cut, Parts, cut-parts, cut-scaled, scaled}
+use Rattle.modulation.proofs.Shares.{Asked, part-of, words, one-most, one-least, both-most, both-least}
+use Rattle.modulation.proofs.Clipping.{cut-parts, cut-scaled, scaled}
 use Rattle.modulation.proofs.Compares.{Short, apart, turned, times-up}
 
 -- ════ the shares of the times that the words f and g ask for, a and b
@@ -56,7 +56,9 @@ bounds (pos t) (pos f) (pos g) ht hf hg o =
     let n = t * g / unit in
     let over : t < m + n = omega (arith, order) in
     let p = cut-parts t m n (omega arith) in
-    let asked : Asked unit t f g m n (p .a) (p .b) = record { unit = lit< tt; first = part (t * f) unit (lit< tt); second = part (t * g) unit (lit< tt); over = omega arith; shares = p .shares } in
+    let one = part-of t f unit (lit< tt) in
+    let two = part-of t g unit (lit< tt) in
+    let asked : Asked unit t f g m n (p .a) (p .b) = record { unit = lit< tt; first = one; second = two; over = omega arith; shares = p .shares } in
     rw (p .one, p .two) (bounds-of t f g (p .a) (p .b) asked)
 bounds (negsuc t) f g ht hf hg o = absurd (ht .le)
 bounds (pos t) (negsuc f) g ht hf hg o = absurd (hf .le)
@@ -74,25 +76,31 @@ at-third : (t w f g c p : ℤ) → w ≡ f +ℤ g → pos 0 ≤ℤ f → (w *ℤ
     → Short (w +ℤ w) (w *ℤ p +ℤ t *ℤ w +ℤ f) (w *ℤ (p +ℤ c) +ℤ t *ℤ pos 0)
 at-third t w f g c p = rw (is-diff t, is-diff w, is-diff f, is-diff g, is-diff c, is-diff p) (simp diffs (omega arith))
 
-abbrev wide : Sector → ℤ
-wide r = (r .t1 +ℤ r .t2) +ℤ (r .t1 +ℤ r .t2)
+-- the row's two words together, and what a compare and its level come to
+abbrev both : Sector → ℤ
+both r = r .t1 +ℤ r .t2
 
 abbrev sum : ℕ → ℤ → Sector → Times → ℤ
-sum k t r h = (r .t1 +ℤ r .t2) *ℤ compareAt k t (h .t1) (h .t2) +ℤ t *ℤ level k r
+sum k t r h = both r *ℤ compareAt k t (h .t1) (h .t2) +ℤ t *ℤ level k r
 
-sum-close : (k : ℕ) (t : ℤ) (r : Sector) (h : Times) → Bounds t (r .t1) (r .t2) (h .t1) (h .t2) → Short (wide r) (sum 0 t r h +ℤ r .t1) (sum k t r h)
+abbrev Close : ℕ → ℤ → Sector → Times → Type 0
+Close k t r h = Short (both r +ℤ both r) (sum 0 t r h +ℤ r .t1) (sum k t r h)
+
+sum-close : (k : ℕ) (t : ℤ) (r : Sector) (h : Times) → Bounds t (r .t1) (r .t2) (h .t1) (h .t2) → Close k t r h
 unfolding compareAt
-sum-close k t r h q = at k
+sum-close zero t r h q =
+    let f = r .t1 in
+    let under : f <ℤ (both r +ℤ both r) = omega (arith, order, q .some, q .second, parts-+ f (r .t2), parts-+ (both r) (both r)) in
+    at-first (both r) f (sum 0 t r h) (q .first) under
+sum-close (suc zero) t r h q =
+    at-second t (both r) (r .t1) (r .t2) (h .t1) (compareAt 0 t (h .t1) (h .t2)) (*-+ t (r .t1) (r .t2)) refl (q .one-most) (q .one-least)
+sum-close (suc (suc k)) t r h q =
+    let p = compareAt 0 t (h .t1) (h .t2) in
+    subst (λ (c : ℤ). Short (both r +ℤ both r) (sum 0 t r h +ℤ r .t1) (both r *ℤ c +ℤ t *ℤ pos 0)) (sums p (h .t1) (h .t2))
+    (at-third t (both r) (r .t1) (r .t2) (h .t1 +ℤ h .t2) p refl (q .first) (q .both-most) (q .both-least))
   where
     sums : (p a b : ℤ) → p +ℤ (a +ℤ b) ≡ p +ℤ a +ℤ b
     sums p a b = omega (arith, order, parts-+ p a, parts-+ a b, parts-+ p (a +ℤ b), parts-+ (p +ℤ a) b)
-
-    at : (k : ℕ) → Short (wide r) (sum 0 t r h +ℤ r .t1) (sum k t r h)
-    at zero = at-first (r .t1 +ℤ r .t2) (r .t1) (sum 0 t r h) (q .first) (omega (arith, order, q .some, q .second, parts-+ (r .t1) (r .t2), parts-+ (r .t1 +ℤ r .t2) (r .t1 +ℤ r .t2)))
-    at (suc zero) = at-second t (r .t1 +ℤ r .t2) (r .t1) (r .t2) (h .t1) (compareAt 0 t (h .t1) (h .t2)) (*-+ t (r .t1) (r .t2)) refl (q .one-most) (q .one-least)
-    at (suc (suc k)) =
-        subst (λ (c : ℤ). Short (wide r) (sum 0 t r h +ℤ r .t1) ((r .t1 +ℤ r .t2) *ℤ c +ℤ t *ℤ pos 0)) (sums (compareAt 0 t (h .t1) (h .t2)) (h .t1) (h .t2))
-        (at-third t (r .t1 +ℤ r .t2) (r .t1) (r .t2) (h .t1 +ℤ h .t2) (compareAt 0 t (h .t1) (h .t2)) refl (q .first) (q .both-most) (q .both-least))
 
 -- any two places
 within-wide : (w z : ℤ) → negℤ (w +ℤ w) <ℤ z → z <ℤ (w +ℤ w) → natAbs z < 2 * natAbs w
@@ -100,11 +108,12 @@ within-wide w (pos n) l h = omega (arith, order, abs-parts w, parts-+ w w)
 within-wide w (negsuc n) l h = omega (arith, order, abs-parts w, parts-+ w w, P-neg (w +ℤ w), N-neg (w +ℤ w))
 
 pair : (t : ℤ) (r : Sector) (h : Times) (i j : ℕ) {d : ℤ} → Bounds t (r .t1) (r .t2) (h .t1) (h .t2) → level i r -ℤ level j r ≡ d
-    → NearShare (r .t1 +ℤ r .t2) t (on t (compareAt i t (h .t1) (h .t2)) -ℤ on t (compareAt j t (h .t1) (h .t2))) d
+    → NearShare (both r) t (on t (compareAt i t (h .t1) (h .t2)) -ℤ on t (compareAt j t (h .t1) (h .t2))) d
 pair t r h i j {d} q e =
-    let w = r .t1 +ℤ r .t2 in
-    let a = apart w (w +ℤ w) t (compareAt i t (h .t1) (h .t2)) (compareAt j t (h .t1) (h .t2)) (level i r) (level j r) (sum 0 t r h +ℤ r .t1)
-    (sum-close i t r h q) (sum-close j t r h q) in
+    let w = both r in
+    let c = compareAt i t (h .t1) (h .t2) in
+    let k = compareAt j t (h .t1) (h .t2) in
+    let a = apart w (w +ℤ w) t c k (level i r) (level j r) (sum 0 t r h +ℤ r .t1) (sum-close i t r h q) (sum-close j t r h q) in
     rw (sym e) (record { near = within-wide w _ (a .0) (a .1) })
 
 pub shortened : (t va vb : ℤ) → pos 0 ≤ℤ t → modulated t va vb .clipped ≡ true → Shortened t va vb (modulated t va vb)
@@ -115,8 +124,8 @@ shortened t va vb up e =
     let s = serves va vb in
     let u = times-up t va vb up in
     let c = scaled t (timeOf t (r .t1)) (timeOf t (r .t2)) e in
-    let q : Bounds t (r .t1) (r .t2) (h .t1) (h .t2) =
-    subst (λ (k : Times). Bounds t (r .t1) (r .t2) (k .t1) (k .t2)) (sym (c .is)) (bounds t (r .t1) (r .t2) up (s .one) (s .two) (c .over)) in
+    let b = bounds t (r .t1) (r .t2) up (s .one) (s .two) (c .over) in
+    let q = subst (λ (k : Times). Bounds t (r .t1) (r .t2) (k .t1) (k .t2)) (sym (c .is)) b in
     record {
       times = (refl, subst (Scaled t (timeOf t (r .t1)) (timeOf t (r .t2))) (sym (c .is)) (cut-scaled t _ _ up (u .0) (u .1) (c .over)));
       a-b = pair t r h (r .a) (r .b) q (s .a-b ∙ turned (A va) (B vb));

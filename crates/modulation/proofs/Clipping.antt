@@ -6,14 +6,13 @@
 -- Assumes nothing.
 use mathlib.Core.Path.{_≡_, refl, subst, sym, _∙_}
 use mathlib.Core.Bool.{Bool, true, false, not, cond}
-use Prim.Native.Nat.{ℕ, zero, suc, _+_, _*_, _/_, _<_}
-use native.Mathlib.Nat.{zero-div}
+use Prim.Native.Nat.{ℕ, _+_, _*_, _/_, _<_}
 use native.Mathlib.Omega.{arith}
 use lib.Dec.{T}
-use lib.IntN.{ℤ, pos, negsuc, negℤ, _+ℤ_, _-ℤ_, _*ℤ_}
+use lib.IntN.{ℤ, pos, negsuc, _+ℤ_, _*ℤ_}
 use lib.Signed.{_≤ℤ_, _<ℤ_, ltZ, ltZ-yes, ltZ-no}
 use Rattle.fixed.specs.Fixed.{down}
-use Rattle.fixed.proofs.Parts.{order, parts-+, parts--, P-neg, N-neg}
+use Rattle.fixed.proofs.Parts.{order, parts--, P-neg, N-neg}
 use Rattle.modulation.specs.declared.Times.{Times}
 use Rattle.modulation.specs.Modulation.{shareOf, cut, clippedTimes, Scaled, Room}
 use Rattle.modulation.proofs.Shares.{Shares, part, sum-most, sum-least, proportion-most, proportion-least}

@@ -13,11 +13,21 @@ pub record Part (n d q : ℕ) : Type 0 where
 pub part : (n d : ℕ) → 0 < d → Part n d (n / d)
 part n d h = record { low = omega (arith, div-add-mod n d); high = omega (arith, div-add-mod n d, mod-lt n h) }
 
+-- of a product, whichever factor stands first
+pub part-of : (t x d : ℕ) → 0 < d → Part (x * t) d (t * x / d)
+part-of t x d h = let p = part (t * x) d h in record { low = omega (arith, p .low); high = omega (arith, p .high) }
+
 scale : (k : ℕ) {x y : ℕ} → x ≤ y → k * x ≤ k * y
 scale k h = mul-le-mul-left k h
 
 cancel : (k x y : ℕ) → 0 < k → k * x ≤ k * y → x ≤ y
 cancel k x y p h = let l : k * x < k * suc y = omega arith in omega (arith, lt-of-mul-lt-mul-left k l)
+
+-- two parts by the same divisor are in the proportion of what they are of: p·y − q·x is within −y..x, here its upper end
+in-proportion : (d t x y p q : ℕ) → 0 < d → Part (x * t) d p → Part (y * t) d q → p * y ≤ q * x + x
+in-proportion d t x y p q h one two =
+    let k : y * t ≤ d * q + d = omega (arith, two .high) in
+    cancel d (p * y) (q * x + x) h (omega (arith, scale y (one .low), scale x k))
 
 -- ════ two shares of one sum
 pub record Shares (t m n a b : ℕ) : Type 0 where
@@ -34,22 +44,17 @@ sum-least t m n a b h =
     let l : (m + n) * t < (m + n) * (a + b + 2) = omega (arith, h .one .high, h .two .high) in
     omega (arith, lt-of-mul-lt-mul-left (m + n) l)
 
--- and in the proportion of m and n: a·n − b·m is within −n..m
 pub proportion-most : (t m n a b : ℕ) → Shares t m n a b → a * n ≤ b * m + m
-proportion-most t m n a b h =
-    let k : n * t ≤ (m + n) * b + (m + n) = omega (arith, h .two .high) in
-    cancel (m + n) (a * n) (b * m + m) (h .some) (omega (arith, scale n (h .one .low), scale m k))
+proportion-most t m n a b h = in-proportion (m + n) t m n a b (h .some) (h .one) (h .two)
 
 pub proportion-least : (t m n a b : ℕ) → Shares t m n a b → b * m ≤ a * n + n
-proportion-least t m n a b h =
-    let k : m * t ≤ (m + n) * a + (m + n) = omega (arith, h .one .high) in
-    cancel (m + n) (b * m) (a * n + n) (h .some) (omega (arith, scale m (h .two .low), scale n k))
+proportion-least t m n a b h = in-proportion (m + n) t n m b a (h .some) (h .two) (h .one)
 
--- ════ shares of what is asked: m and n are t·f/u and t·g/u rounded down, and together more than t
+-- ════ shares of what is asked: m and n are f·t/u and g·t/u rounded down, and together no less than t
 pub record Asked (u t f g m n a b : ℕ) : Type 0 where
   pub unit : 0 < u
-  pub first : Part (t * f) u m
-  pub second : Part (t * g) u n
+  pub first : Part (f * t) u m
+  pub second : Part (g * t) u n
   pub over : t ≤ m + n
   pub shares : Shares t m n a b
 
@@ -62,28 +67,18 @@ words u t zero zero m n a b h =
 words u t (suc f) g m n a b h = omega arith
 words u t zero (suc g) m n a b h = omega arith
 
--- the times are in the proportion of the words: m·g − n·f is within −g..f
-cross-most : (u t f g m n a b : ℕ) → Asked u t f g m n a b → m * g ≤ n * f + f
-cross-most u t f g m n a b h =
-    let k : t * g ≤ u * n + u = omega (arith, h .second .high) in
-    cancel u (m * g) (n * f + f) (h .unit) (omega (arith, scale g (h .first .low), scale f k))
-
-cross-least : (u t f g m n a b : ℕ) → Asked u t f g m n a b → n * f ≤ m * g + g
-cross-least u t f g m n a b h =
-    let k : t * f ≤ u * m + u = omega (arith, h .first .high) in
-    cancel u (n * f) (m * g + g) (h .unit) (omega (arith, scale f (h .second .low), scale g k))
-
 -- so that the first share is near t·f/(f + g)
 pub one-most : (u t f g m n a b : ℕ) → Asked u t f g m n a b → (f + g) * a ≤ t * f + f
 one-most u t f g m n a b h =
+    let c = in-proportion u t f g m n (h .unit) (h .first) (h .second) in
     cancel (m + n) ((f + g) * a) (t * f + f) (h .shares .some)
-    (omega (arith, scale (f + g) (h .shares .one .low), scale t (cross-most u t f g m n a b h), scale f (h .over)))
+    (omega (arith, scale (f + g) (h .shares .one .low), scale t c, scale f (h .over)))
 
 pub one-least : (u t f g m n a b : ℕ) → Asked u t f g m n a b → t * f < (f + g) * a + (f + g) + g
 one-least u t f g m n a b h =
     let k : m * t + 1 ≤ (m + n) * a + (m + n) = omega (arith, h .shares .one .high) in
-    let l : (m + n) * (t * f) < (m + n) * ((f + g) * a + (f + g) + g) =
-    omega (arith, words u t f g m n a b h, scale (f + g) k, scale t (cross-least u t f g m n a b h), scale g (h .over)) in
+    let c = in-proportion u t g f n m (h .unit) (h .second) (h .first) in
+    let l : (m + n) * (t * f) < (m + n) * ((f + g) * a + (f + g) + g) = omega (arith, words u t f g m n a b h, scale (f + g) k, scale t c, scale g (h .over)) in
     lt-of-mul-lt-mul-left (m + n) l
 
 -- and both together near t

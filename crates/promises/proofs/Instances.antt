@@ -25,13 +25,13 @@ use Rattle.drive.proofs.AtBench.{bench-sound, bench-intact, targets, once, firs
 use Rattle.rows.specs.Rows.{rowStepped, isAccepted, noRows, ranOf, rowsFit}
 use Rattle.promises.specs.Histories.{afterCall, afterCalls, rowAt, Quiet, stepsIn, stepsOf, clears, NoClear}
 use Rattle.promises.specs.Words.{seen, dError, qError, next, speedError}
-use Rattle.promises.specs.Instances.{rested, waiting, untied, spoiled, TablesMet, Taken, StepsMet, pressed, ClippedMet, TicksMet, HistoryMet, quiet, QuietMet}
+use Rattle.promises.specs.Instances.{rested, waiting, untied, spoiled, TablesMet, Taken, StepsMet, TicksMet, HistoryMet, quiet, QuietMet}
 use Rattle.ring.specs.Ring.{inRange, placeIn, rowsIn, placeAfter, oneMore, oldestFirst}
 use Rattle.stages.specs.declared.Stepped.{Stepped}
 use Rattle.moments.specs.Moments.{none, realRows, put, rowAt as momentRow, momentAt, rowOf, kept, recorded}
 use Rattle.moments.specs.Recordings.{after, afterAll}
 use Rattle.promises.specs.Flux.{Sees, HeldAt}
-use Rattle.promises.specs.Instances.{rising, FluxMet, MomentsMet}
+use Rattle.promises.specs.Instances.{pressed, ClippedMet, rising, FluxMet, MomentsMet}
 use Rattle.promises.proofs.Demand1.{step-table, target-table, clear-table}
 use Rattle.promises.proofs.Demand2.{step-by-the-rules, run-of-none}
 use Rattle.promises.proofs.Window.{quiet-no-clear}
