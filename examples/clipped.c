@@ -1,8 +1,9 @@
 /* More voltage than the period holds. A blower starts hard: its currents have hardly come up, so that the regulators give all the voltage they
  * may, and it turns with the field. Nearly every step is clipped then: its voltage gets shorter and is not turned, so that it pulls the way it
- * was meant to. What a motor has between two phases is the difference of their on-times; behind each stands in brackets, rounded down, what
- * the voltage asks for: docs/RULES.md, "Modulation", has it in whole numbers. All of it is a desk; a handler to start from is in interrupt.c.
- * bin/library says how to compile and link it; bin/interrupt_example compares what it writes with clipped.out. */
+ * was meant to. What a motor has between two phases is the difference of their on-times. Behind each stands in brackets, to the nearest count,
+ * what the voltage asks for, and in a clipped step that, made shorter until the largest of the three is the period: docs/RULES.md, "Modulation".
+ * All of it is a desk; a handler to start from is in interrupt.c. bin/library says how to compile and link it; bin/interrupt_example compares
+ * what it writes with clipped.out. */
 #include <stdio.h>
 
 #include "mirgalhet.h"
@@ -12,7 +13,7 @@ static const mirgalhet_settings bench = {600, 8192, 64, 128, 4096, 256, 256, 409
 
 static mirgalhet_drive drive; // zeroed, and so broken until it is started
 
-/* Of a less b, b less c, a less c: what the on-times give, in counts, and what the voltage asks for, which is T * asked / whole. */
+/* Of a less b, b less c, a less c: what the on-times give, in counts, and what they should, which is T * asked / whole. */
 struct differences {
     int64_t given[3], asked[3], whole;
 };
@@ -30,7 +31,7 @@ static struct differences between_phases(mirgalhet_output o)
     return d;
 }
 
-/* How far the furthest of the three is from what was asked for, in thousandths of a count. */
+/* How far the furthest of the three is from what it should be, in thousandths of a count. */
 static int64_t thousandths_away(struct differences d)
 {
     int64_t most = 0;
@@ -47,13 +48,14 @@ static void print_step(int32_t k, mirgalhet_output o, struct differences d)
     printf("step %d: voltage %d %d clipped %d, on-times %d %d %d", (int)k, (int)o.alpha, (int)o.beta, (int)o.clipped,
            (int)(bench.t - o.a), (int)(bench.t - o.b), (int)(bench.t - o.c));
     for (int i = 0; i < 3; i++) {
-        int64_t n = bench.t * d.asked[i];
-        printf(", %s %d (%d)", names[i], (int)d.given[i], (int)(n / d.whole - (n % d.whole < 0))); // down, also below 0
+        int64_t n = 2 * bench.t * d.asked[i] + d.whole, w = 2 * d.whole; // n / w down, also below 0, is the nearest
+        printf(", %s %d (%d)", names[i], (int)d.given[i], (int)(n / w - (n % w < 0)));
     }
     printf("\n");
 }
 
-/* The steps that are printed: three unclipped ones, the last of which is the last before any is clipped; the next; and one in each sector. */
+/* The steps that are printed: three unclipped ones, the last of which is the last before any is clipped; the next; and one in each sector. A 0
+ * is the end, since no step has that number. */
 static const int32_t told[] = {1, 100, 174, 175, 600, 1200, 1500, 1700, 1900, 2000, 0};
 
 int main(void)
@@ -68,8 +70,10 @@ int main(void)
         struct differences d = between_phases(o);
 
         refused += o.number != MIRGALHET_ACCEPTED;
-        if (k == told[next])
-            print_step(told[next++], o, d);
+        if (k == told[next]) {
+            print_step(k, o, d);
+            next++;
+        }
         if (o.clipped) {
             clipped++;
             turned += thousandths_away(d) >= 2000;

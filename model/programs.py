@@ -342,15 +342,19 @@ def between_phases(answer):
 
 
 def thousandths_away(differences, whole):
-    """How far the furthest of the three is from what was asked for."""
+    """How far the furthest of the three is from what it should be."""
     return max(1000 * abs(given * whole - drive.BENCH['T'] * asked) // whole for given, asked in differences)
+
+
+def nearest(n, whole):
+    return (2 * n + whole) // (2 * whole)
 
 
 def told_step(k, answer, differences, whole):
     period = drive.BENCH['T']
     said = 'step %d: voltage %d %d clipped %d' % (k, *answer.voltage, answer.clipped)
     said += ', on-times %d %d %d' % tuple(period - compare for compare in answer.compares)
-    return said + ''.join(', %s %d (%d)' % (name, given, period * asked // whole) for name, (given, asked) in zip(('a-b', 'b-c', 'a-c'), differences))
+    return said + ''.join(', %s %d (%d)' % (name, given, nearest(period * asked, whole)) for name, (given, asked) in zip(('a-b', 'b-c', 'a-c'), differences))
 
 
 def clipped():

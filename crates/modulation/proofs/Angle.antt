@@ -1,25 +1,25 @@
--- Clipped, the voltage is shortened and not turned (`shortened`): the times are those asked for, scaled, and the on-times differ by what the voltage asks,
--- times T/W, to less than 2 counts; for every period and every voltage. The table enters by `serves` alone, the clipping rule by its laws.
+-- Clipped, the voltage is shortened and not turned (`shortened`): the times are those asked for, scaled, and the on-times differ by A − B, 2B and A + B,
+-- times T/W, to less than 2 counts; for every period and every voltage. The table enters by `serves` and `top-of`, the rule by its laws.
 -- Assumes nothing.
 use mathlib.Core.Path.{_≡_, refl, subst, sym, _∙_}
 use mathlib.Core.Bool.{true}
-use Prim.Native.Nat.{ℕ, zero, suc, _+_, _*_, _/_, _<_}
+use Prim.Native.Nat.{ℕ, zero, suc, _+_, _*_, _/_, _≤_, _<_}
 use native.Mathlib.Omega.{arith}
 use lib.Dec.{lit<}
 use lib.IntN.{ℤ, pos, negsuc, negℤ, natAbs, _+ℤ_, _-ℤ_, _*ℤ_}
 use lib.Signed.{_≤ℤ_, _<ℤ_}
 use Rattle.fixed.specs.Fixed.{down}
-use Rattle.fixed.proofs.Parts.{order, diffs, is-diff, parts-+, P-neg, N-neg}
+use Rattle.fixed.proofs.Parts.{order, diffs, is-diff, parts-+, parts--, P-neg, N-neg}
 use Rattle.fixed.proofs.Ring.{*-+}
-use Rattle.fixed.proofs.Size.{abs-parts}
+use Rattle.fixed.proofs.Size.{abs-parts, abs-+}
 use Rattle.modulation.specs.declared.Sector.{Sector}
 use Rattle.modulation.specs.declared.Times.{Times}
-use Rattle.modulation.specs.Modulation.{A, B, entriesOf, sectorOf, timeOf, cut, timesOf, compareAt, placed, modulated}
-use Rattle.modulation.specs.Modulation.{on, Scaled, NearShare, Shortened}
-use Rattle.modulation.proofs.Sectors.{level, serves}
+use Rattle.modulation.specs.Modulation.{A, B, W, entriesOf, sectorOf, timeOf, cut, timesOf, compareAt, placed, modulated}
+use Rattle.modulation.specs.Modulation.{on, Scaled, NearShare, Largest, Shortened}
+use Rattle.modulation.proofs.Sectors.{level, serves, top-of}
 use Rattle.modulation.proofs.Shares.{Asked, part-of, words, one-most, one-least, both-most, both-least}
 use Rattle.modulation.proofs.Clipping.{cut-parts, cut-scaled, scaled}
-use Rattle.modulation.proofs.Compares.{Short, apart, turned, times-up}
+use Rattle.modulation.proofs.Compares.{unit, Short, apart, abs-under, turned, times-up}
 
 -- ════ the shares of the times that the words f and g ask for, a and b
 record Bounds (t f g a b : ℤ) : Type 0 where
@@ -30,9 +30,6 @@ record Bounds (t f g a b : ℤ) : Type 0 where
   pub one-least : (t *ℤ f) <ℤ ((f +ℤ g) *ℤ a +ℤ (f +ℤ g) +ℤ g)
   pub both-most : ((f +ℤ g) *ℤ (a +ℤ b)) ≤ℤ (t *ℤ (f +ℤ g))
   pub both-least : (t *ℤ (f +ℤ g)) <ℤ ((f +ℤ g) *ℤ (a +ℤ b) +ℤ (f +ℤ g) +ℤ g)
-
-abbrev unit : ℕ
-unit = 16777216
 
 bounds-of : (t f g a b : ℕ) → Asked unit t f g (t * f / unit) (t * g / unit) a b → Bounds (pos t) (pos f) (pos g) (pos a) (pos b)
 bounds-of t f g a b h =
@@ -58,7 +55,7 @@ bounds (pos t) (pos f) (pos g) ht hf hg o =
     let p = cut-parts t m n (omega arith) in
     let one = part-of t f unit (lit< tt) in
     let two = part-of t g unit (lit< tt) in
-    let asked : Asked unit t f g m n (p .a) (p .b) = record { unit = lit< tt; first = one; second = two; over = omega arith; shares = p .shares } in
+    let asked : Asked unit t f g m n (p .a) (p .b) = record { some = lit< tt; first = one; second = two; over = omega arith; shares = p .shares } in
     rw (p .one, p .two) (bounds-of t f g (p .a) (p .b) asked)
 bounds (negsuc t) f g ht hf hg o = absurd (ht .le)
 bounds (pos t) (negsuc f) g ht hf hg o = absurd (hf .le)
@@ -104,8 +101,7 @@ sum-close (suc (suc k)) t r h q =
 
 -- any two places
 within-wide : (w z : ℤ) → negℤ (w +ℤ w) <ℤ z → z <ℤ (w +ℤ w) → natAbs z < 2 * natAbs w
-within-wide w (pos n) l h = omega (arith, order, abs-parts w, parts-+ w w)
-within-wide w (negsuc n) l h = omega (arith, order, abs-parts w, parts-+ w w, P-neg (w +ℤ w), N-neg (w +ℤ w))
+within-wide w z l h = omega (arith, abs-+ w w, abs-under (w +ℤ w) z l h)
 
 pair : (t : ℤ) (r : Sector) (h : Times) (i j : ℕ) {d : ℤ} → Bounds t (r .t1) (r .t2) (h .t1) (h .t2) → level i r -ℤ level j r ≡ d
     → NearShare (both r) t (on t (compareAt i t (h .t1) (h .t2)) -ℤ on t (compareAt j t (h .t1) (h .t2))) d
@@ -116,6 +112,39 @@ pair t r h i j {d} q e =
     let a = apart w (w +ℤ w) t c k (level i r) (level j r) (sum 0 t r h +ℤ r .t1) (sum-close i t r h q) (sum-close j t r h q) in
     rw (sym e) (record { near = within-wide w _ (a .0) (a .1) })
 
+-- ════ W is the largest of the three that the voltage asks
+level-in : (k : ℕ) (r : Sector) → pos 0 ≤ℤ r .t1 → pos 0 ≤ℤ r .t2 → (pos 0 ≤ℤ level k r) × (level k r ≤ℤ both r)
+level-in zero r h k = omega (arith, order, parts-+ (r .t1) (r .t2))
+level-in (suc zero) r h k = omega (arith, order, parts-+ (r .t1) (r .t2))
+level-in (suc (suc i)) r h k = omega (arith, order, parts-+ (r .t1) (r .t2))
+
+size-most : (w z : ℤ) → negℤ w ≤ℤ z → z ≤ℤ w → natAbs z ≤ natAbs w
+size-most w (pos n) l h = omega (arith, order, abs-parts w)
+size-most w (negsuc n) l h = omega (arith, order, abs-parts w, P-neg w, N-neg w)
+
+at-most : (i j : ℕ) (r : Sector) {d : ℤ} → pos 0 ≤ℤ r .t1 → pos 0 ≤ℤ r .t2 → level i r -ℤ level j r ≡ d → natAbs d ≤ natAbs (both r)
+at-most i j r h k e =
+    let a = level-in i r h k in
+    let b = level-in j r h k in
+    let w = both r in
+    rw (sym e)
+    (size-most w (level i r -ℤ level j r) (omega (arith, order, a, b, parts-- (level i r) (level j r), P-neg w, N-neg w))
+    (omega (arith, order, a, b, parts-- (level i r) (level j r))))
+
+pub largest : (va vb : ℤ) → Largest (W va vb) (A va -ℤ B vb) (pos 2 *ℤ B vb) (A va +ℤ B vb)
+unfolding entriesOf
+largest va vb =
+    let r = sectorOf (entriesOf va vb) in
+    let s = serves va vb in
+    record {
+      up = omega (arith, order, s .one, s .two, parts-+ (r .t1) (r .t2));
+      x-most = at-most (r .a) (r .b) r (s .one) (s .two) (s .a-b ∙ turned (A va) (B vb));
+      y-most = at-most (r .b) (r .c) r (s .one) (s .two) (s .b-c);
+      z-most = at-most (r .a) (r .c) r (s .one) (s .two) (s .a-c);
+      one-of-them = rw (← turned (A va) (B vb)) (top-of va vb);
+    }
+
+-- ════ of every voltage
 pub shortened : (t va vb : ℤ) → pos 0 ≤ℤ t → modulated t va vb .clipped ≡ true → Shortened t va vb (modulated t va vb)
 unfolding modulated placed timesOf entriesOf
 shortened t va vb up e =
@@ -127,6 +156,7 @@ shortened t va vb up e =
     let b = bounds t (r .t1) (r .t2) up (s .one) (s .two) (c .over) in
     let q = subst (λ (k : Times). Bounds t (r .t1) (r .t2) (k .t1) (k .t2)) (sym (c .is)) b in
     record {
+      whole = largest va vb;
       times = (refl, subst (Scaled t (timeOf t (r .t1)) (timeOf t (r .t2))) (sym (c .is)) (cut-scaled t _ _ up (u .0) (u .1) (c .over)));
       a-b = pair t r h (r .a) (r .b) q (s .a-b ∙ turned (A va) (B vb));
       b-c = pair t r h (r .b) (r .c) q (s .b-c);

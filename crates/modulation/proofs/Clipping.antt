@@ -54,14 +54,15 @@ cut-room = of-parts (λ t t1 t2 h. Room t h) by
     }
 
 pub cut-scaled : (t t1 t2 : ℤ) → pos 0 ≤ℤ t → pos 0 ≤ℤ t1 → pos 0 ≤ℤ t2 → t <ℤ (t1 +ℤ t2) → Scaled t t1 t2 (cut t t1 t2)
-cut-scaled = of-parts Scaled by
+cut-scaled t t1 t2 h h1 h2 o = of-parts (λ (t t1 t2 : ℤ) (h : Times). t <ℤ (t1 +ℤ t2) → Scaled t t1 t2 h) by t t1 t2 h h1 h2 o o
   where
-    by : (t m n : ℕ) (h : Times) → Parts t m n h → Scaled (pos t) (pos m) (pos n) h
-    by t m n h p =
+    by : (t m n : ℕ) (h : Times) → Parts t m n h → pos t <ℤ (pos m +ℤ pos n) → Scaled (pos t) (pos m) (pos n) h
+    by t m n h p o =
         let a = p .a in
         let b = p .b in
         let s = p .shares in
         record {
+          over = o;
           most = rw (p .one, p .two) (omega (arith, order, sum-most t m n a b s));
           least = rw (p .one, p .two) (omega (arith, order, sum-least t m n a b s));
           one = rw (p .one) (record { low = omega (arith, order, s .one .low); high = omega (arith, order, s .one .high) });

@@ -12,6 +12,7 @@ use lib.Signed.{_≤ℤ_, _<ℤ_, ltZ-yes}
 use Rattle.fixed.specs.Fixed.{down}
 use Rattle.fixed.proofs.Parts.{order, diffs, is-diff, parts-+, parts--, P-neg, N-neg}
 use Rattle.fixed.proofs.Ring.{*-nonneg}
+use Rattle.fixed.proofs.Size.{abs-parts}
 use Rattle.fixed.proofs.DownLaws.{down-low, down-high, down-low-parts, down-high-parts, le-down}
 use Rattle.modulation.specs.declared.Sector.{Sector}
 use Rattle.modulation.specs.declared.Times.{Times}
@@ -70,7 +71,7 @@ compares-within t va vb h =
     (compare-within (r .a) t (timesOf t r) m, compare-within (r .b) t (timesOf t r) m, compare-within (r .c) t (timesOf t r) m)
 
 -- ════ unclipped, the on-times differ by what the voltage asks
-abbrev unit : ℕ
+abbrev pub unit : ℕ
 unit = 16777216
 
 -- s is m, or less than n below it; `Close`: less than 2 counts
@@ -109,15 +110,16 @@ sum-close k t r = at k
     at (suc zero) = all .1
     at (suc (suc k)) = all .2
 
--- two compares c and d with the levels l and m, whose sums are less than n below the same: the on-times differ by l − m, w counts being t
+-- two compares c and d with the levels l and m, whose sums are less than n below the same: then w times the difference of the on-times is less than n
+-- from t·(l − m)
 pub apart : (w n t c d l m top : ℤ) → Short n top (w *ℤ c +ℤ t *ℤ l) → Short n top (w *ℤ d +ℤ t *ℤ m)
     → (negℤ n <ℤ (w *ℤ (on t c -ℤ on t d) -ℤ t *ℤ (l -ℤ m))) × ((w *ℤ (on t c -ℤ on t d) -ℤ t *ℤ (l -ℤ m)) <ℤ n)
 apart w n t c d l m top =
     rw (is-diff w, is-diff n, is-diff t, is-diff c, is-diff d, is-diff l, is-diff m, is-diff top) (simp diffs (omega arith))
 
-abs-under : (n : ℕ) (z : ℤ) → negℤ (pos n) <ℤ z → z <ℤ pos n → natAbs z < n
-abs-under n (pos k) l h = omega (arith, order)
-abs-under n (negsuc k) l h = omega (arith, order, P-neg (pos n), N-neg (pos n))
+pub abs-under : (n z : ℤ) → negℤ n <ℤ z → z <ℤ n → natAbs z < natAbs n
+abs-under n (pos k) l h = omega (arith, order, abs-parts n)
+abs-under n (negsuc k) l h = omega (arith, order, abs-parts n, P-neg n, N-neg n)
 
 -- any two places, of times that are not clipped
 pair : (t : ℤ) (r : Sector) (h : Times) (i j : ℕ) {d : ℤ} → Kept t (timeOf t (r .t1)) (timeOf t (r .t2)) h → level i r -ℤ level j r ≡ d
@@ -127,7 +129,7 @@ pair t r h i j {d} w e =
     let n = timeOf t (r .t2) in
     let a = apart (pos unit) (pos 33554432) t (compareAt i t m n) (compareAt j t m n) (level i r) (level j r) (sum 0 t r)
     (sum-close i t r) (sum-close j t r) in
-    rw (w .one, w .two, sym e) (record { near = abs-under 33554432 _ (a .0) (a .1) })
+    rw (w .one, w .two, sym e) (record { near = abs-under (pos 33554432) _ (a .0) (a .1) })
 
 pub turned : (a b : ℤ) → negℤ (b -ℤ a) ≡ a -ℤ b
 turned a b = omega (arith, order, P-neg (b -ℤ a), N-neg (b -ℤ a), parts-- a b, parts-- b a)

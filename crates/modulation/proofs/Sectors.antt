@@ -1,15 +1,17 @@
 -- What the sectors have in common, shown once for the whole table, whichever row a voltage picks: `serves`. Neither entry of the row is
 -- negative, and its places set the phases a, b and c on levels that differ by −Z, X and Y. The theorems on compares know no more of
--- the table than this. With it: N is never 7, and 0 for the zero vector alone.
+-- the table than this. The two entries together are the largest of the three that are asked (`top-of`). With it: N is never 7, and 0 for the zero vector alone.
 -- Assumes nothing.
-use mathlib.Core.Path.{_≡_}
+use mathlib.Core.Path.{_≡_, ap, sym, _∙_}
 use mathlib.Core.Bool.{Bool, true, false, not, cond}
+use mathlib.Core.Logic.{_⊎_, inl, inr}
 use Prim.Native.Nat.{ℕ, zero, suc, _+_, _≤_}
 use native.Mathlib.Omega.{arith}
 use lib.Dec.{T}
-use lib.IntN.{ℤ, pos, negℤ, _+ℤ_, _-ℤ_, _*ℤ_}
+use lib.IntN.{ℤ, pos, negℤ, natAbs, _+ℤ_, _-ℤ_, _*ℤ_}
 use lib.Signed.{_≤ℤ_, _<ℤ_, ltZ, ltZ-yes, ltZ-no}
 use Rattle.fixed.proofs.Parts.{P, N, order, parts-+, parts--, parts-*, P-neg, N-neg}
+use Rattle.fixed.proofs.Size.{abs-neg}
 use Rattle.modulation.specs.declared.Entries.{Entries}
 use Rattle.modulation.specs.declared.Sector.{Sector}
 use Rattle.modulation.specs.Modulation.{A, B, entriesOf, bit, sectorNumber, sectorAt, sectorOf}
@@ -82,22 +84,58 @@ at e q true false true hx hz hy = omega (arith, gap, order)
 at e q false true true hx hz hy = omega (arith, gap, order)
 at e q true true true hx hz hy = absurd (omega (arith, order))
 
+-- the two entries of the row together are one of the three that are asked, or its opposite
+abbrev pub Top : Entries → Sector → Type 0
+Top e r = let w = natAbs (r .t1 +ℤ r .t2) in (w ≡ natAbs (negℤ (e .z))) ⊎ ((w ≡ natAbs (e .x)) ⊎ (w ≡ natAbs (e .y)))
+
+opposite : {w : ℤ} (u : ℤ) → w ≡ negℤ u → natAbs w ≡ natAbs u
+opposite u e = ap natAbs e ∙ abs-neg u
+
+top : (e : Entries) → Known (e .x) (e .y) (e .z)
+    → (i j k : Bool) → Side i (e .x) → Side j (negℤ (e .z)) → Side k (negℤ (e .y)) → Top e (sectorAt (cond i 1 0 + cond j 2 0 + cond k 4 0) e)
+unfolding sectorAt
+top e q false false false hx hz hy = let w : pos 0 +ℤ pos 0 ≡ e .x = omega (arith, order) in inr (inl (ap natAbs w))
+top e q true false false hx hz hy = let w : e .z +ℤ e .y ≡ e .x = omega (arith, order) in inr (inl (ap natAbs w))
+top e q false true false hx hz hy = let w : e .y +ℤ negℤ (e .x) ≡ negℤ (e .z) = omega (arith, order) in inl (ap natAbs w)
+top e q true true false hx hz hy = let w : negℤ (e .z) +ℤ e .x ≡ e .y = omega (arith, order) in inr (inr (ap natAbs w))
+top e q false false true hx hz hy = let w : negℤ (e .x) +ℤ e .z ≡ negℤ (e .y) = omega (arith, order) in inr (inr (opposite (e .y) w))
+top e q true false true hx hz hy = let w : e .x +ℤ negℤ (e .y) ≡ e .z = omega (arith, order) in inl (ap natAbs w ∙ sym (abs-neg (e .z)))
+top e q false true true hx hz hy = let w : negℤ (e .y) +ℤ negℤ (e .z) ≡ negℤ (e .x) = omega (arith, order) in inr (inl (opposite (e .x) w))
+top e q true true true hx hz hy = absurd (omega (arith, order))
+
+-- what is shown by the three tests is shown of every voltage
+module _ (va vb : ℤ) where
+  abbrev asked : Entries
+  asked = entriesOf va vb
+
+  all-known : Known (asked .x) (asked .y) (asked .z)
+  unfolding entriesOf
+  all-known = known (asked .x) (asked .y) (asked .z) (sum (A va) (B vb))
+    where
+      sum : (a b : ℤ) → pos 2 *ℤ b ≡ (a +ℤ b) +ℤ (b -ℤ a)
+      sum a b = omega (arith, order, parts-* (pos 2) b, parts-+ a b, parts-- b a, parts-+ (a +ℤ b) (b -ℤ a))
+
+  by-tests : (R : ℕ → Type 0)
+      → ((i j k : Bool) → Side i (asked .x) → Side j (negℤ (asked .z)) → Side k (negℤ (asked .y)) → R (cond i 1 0 + cond j 2 0 + cond k 4 0))
+      → R (sectorNumber asked)
+  unfolding sectorNumber bit
+  by-tests R f =
+      f (ltZ (pos 0) (asked .x)) (ltZ (pos 0) (negℤ (asked .z))) (ltZ (pos 0) (negℤ (asked .y)))
+      (side (asked .x))
+      (side (negℤ (asked .z)))
+      (side (negℤ (asked .y)))
+
 chosen : (va vb : ℤ) → At (entriesOf va vb) (sectorNumber (entriesOf va vb))
-unfolding entriesOf sectorNumber bit
-chosen va vb =
-    let e = entriesOf va vb in
-    at e (known (e .x) (e .y) (e .z) (sum (A va) (B vb))) (ltZ (pos 0) (e .x)) (ltZ (pos 0) (negℤ (e .z))) (ltZ (pos 0) (negℤ (e .y)))
-    (side (e .x))
-    (side (negℤ (e .z)))
-    (side (negℤ (e .y)))
-  where
-    sum : (a b : ℤ) → pos 2 *ℤ b ≡ (a +ℤ b) +ℤ (b -ℤ a)
-    sum a b = omega (arith, order, parts-* (pos 2) b, parts-+ a b, parts-- b a, parts-+ (a +ℤ b) (b -ℤ a))
+chosen va vb = let e = entriesOf va vb in by-tests va vb (At e) (at e (all-known va vb))
 
 -- ════ of every voltage
 pub serves : (va vb : ℤ) → Serves (entriesOf va vb) (sectorOf (entriesOf va vb))
 unfolding sectorOf
 serves va vb = chosen va vb .serves
+
+pub top-of : (va vb : ℤ) → Top (entriesOf va vb) (sectorOf (entriesOf va vb))
+unfolding sectorOf
+top-of va vb = let e = entriesOf va vb in by-tests va vb (λ n. Top e (sectorAt n e)) (top e (all-known va vb))
 
 pub at-most-six : (va vb : ℤ) → sectorNumber (entriesOf va vb) ≤ 6
 at-most-six va vb = chosen va vb .most

@@ -3,6 +3,7 @@ use mathlib.Core.Path.{_≡_}
 use Prim.Native.Nat.{ℕ, zero, suc, _+_, _*_, _≤_, _<_}
 use mathlib.Core.Bool.{true, false, cond}
 use mathlib.Core.List.{List, [], _∷_}
+use mathlib.Core.Logic.{_⊎_}
 use lib.IntN.{ℤ, pos, negℤ, natAbs, _+ℤ_, _-ℤ_, _*ℤ_}
 use lib.ListN.{getD}
 use lib.Signed.{_≤ℤ_, _<ℤ_, ltZ}
@@ -143,9 +144,10 @@ pub record Share (t s x u : ℤ) : Type 0 where
   pub low : (s *ℤ u) ≤ℤ (x *ℤ t)
   pub high : (x *ℤ t) <ℤ (s *ℤ u +ℤ s)
 
--- what clipping leaves of two times t1 and t2: together T or T − 1, each its share, and both in the proportion that they had. Exactly in
--- proportion t1'·t2 − t2'·t1 would be 0; it is within −t2..t1
+-- what clipping leaves, t1' and t2', of two times t1 and t2 that were more than T: together T or T − 1, each its share, and both in the proportion that
+-- they had. In exact proportion t1'·t2 − t2'·t1 would be 0; it is within −t2..t1
 pub record Scaled (t t1 t2 : ℤ) (h : Times) : Type 0 where
+  pub over : t <ℤ (t1 +ℤ t2)
   pub most : (h .t1 +ℤ h .t2) ≤ℤ t
   pub least : t ≤ℤ (h .t1 +ℤ h .t2 +ℤ pos 1)
   pub one : Share t (t1 +ℤ t2) t1 (h .t1)
@@ -161,9 +163,18 @@ pub record NearShare (w t u d : ℤ) : Type 0 where
 abbrev pub W : ℤ → ℤ → ℤ
 W va vb = sectorOf (entriesOf va vb) .t1 +ℤ sectorOf (entriesOf va vb) .t2
 
+-- w is the largest of the sizes of x, y and z
+pub record Largest (w x y z : ℤ) : Type 0 where
+  pub up : pos 0 ≤ℤ w
+  pub x-most : natAbs x ≤ natAbs w
+  pub y-most : natAbs y ≤ natAbs w
+  pub z-most : natAbs z ≤ natAbs w
+  pub one-of-them : (natAbs w ≡ natAbs x) ⊎ ((natAbs w ≡ natAbs y) ⊎ (natAbs w ≡ natAbs z))
+
 -- clipped, the voltage is shortened and not turned: the times of the pulses are those asked for, scaled; and the on-time differences a − b, b − c and a − c
--- are near A − B, 2B and A + B, each times T/W
+-- are near A − B, 2B and A + B, each times T/W, W being the largest of the three
 pub record Shortened (t va vb : ℤ) (p : Pulses) : Type 0 where
+  pub whole : Largest (W va vb) (A va -ℤ B vb) (pos 2 *ℤ B vb) (A va +ℤ B vb)
   pub times : let r = sectorOf (entriesOf va vb) in (p ≡ placed t r (timesOf t r)) × Scaled t (timeOf t (r .t1)) (timeOf t (r .t2)) (timesOf t r)
   pub a-b : NearShare (W va vb) t (on t (p .a) -ℤ on t (p .b)) (A va -ℤ B vb)
   pub b-c : NearShare (W va vb) t (on t (p .b) -ℤ on t (p .c)) (pos 2 *ℤ B vb)

@@ -117,8 +117,8 @@ fn time(t: i32, e: i32) -> i32
     fixed::scaled(t, e, 16777216) as i32
 }
 
-// The share of a time x in the period t, where the two times together come to `sum`, which is more. None of the three is negative, and
-// the product has 32 bits without a sign: on a small processor that is one multiplication and one division.
+// The share of a time x in the period t, where the two times together come to `sum`, which is more than t. None of the three is negative,
+// and the product has 32 bits without a sign: on a small processor that is one multiplication and one division.
 fn share(t: i32, sum: i32, x: i32) -> i32
     requires { ⌜ Period t × Time x × (t <ℤ sum) × (x ≤ℤ sum) ⌝ }
     ensures { λ r. ⌜ r ≡ shareOf t sum x ⌝ }
