@@ -169,7 +169,7 @@ typedef struct mirgalhet_output {
     int32_t b;
     int32_t c;
     int32_t number; /* on any but 0 disable the gates */
-    bool clipped;   /* whether the voltage was more than the period holds: it is shortened then, not turned: docs/RULES.md, "Modulation" */
+    bool clipped;   /* whether the voltage was more than the period holds; it is shortened then, not turned (docs/RULES.md, "Modulation") */
     int32_t alpha;  /* the voltage that was modulated, before clipping */
     int32_t beta;
 } mirgalhet_output;

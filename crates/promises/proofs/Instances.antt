@@ -1,4 +1,5 @@
--- The instances, by the values that the crates below give at the bench: only the promises' words, the calls and the order of the rules are opened here.
+-- The instances, by the values that the crates below give at the bench: only the promises' words, the calls and the order of the rules are opened here, and,
+-- for the step that is clipped, the regulators and the way back to the stator at the end of their ranges.
 -- Assumes nothing.
 use mathlib.Core.Path.{_≡_, refl, ap}
 use mathlib.Core.Bool.{true, false}
@@ -8,7 +9,6 @@ use lib.IntN.{ℤ, pos, negsuc, _-ℤ_}
 use lib.Signed.{ltZ-yes, leZ-yes}
 use Rattle.fixed.specs.Fixed.{down, held}
 use Rattle.fixed.proofs.Ranges.{Inside}
-use Rattle.regulator.specs.declared.Gains.{Gains}
 use Rattle.regulator.specs.Regulator.{sumOf, outOf, nextOf, regulated}
 use Rattle.frames.specs.Frames.{inversePark}
 use Rattle.modulation.proofs.Cases.{clipped-case}
@@ -31,6 +31,7 @@ use Rattle.stages.specs.declared.Stepped.{Stepped}
 use Rattle.moments.specs.Moments.{none, realRows, put, rowAt as momentRow, momentAt, rowOf, kept, recorded}
 use Rattle.moments.specs.Recordings.{after, afterAll}
 use Rattle.promises.specs.Flux.{Sees, HeldAt}
+use Rattle.promises.specs.Starred.{current}
 use Rattle.promises.specs.Instances.{pressed, ClippedMet, rising, FluxMet, MomentsMet}
 use Rattle.promises.proofs.Demand1.{step-table, target-table, clear-table}
 use Rattle.promises.proofs.Demand2.{step-by-the-rules, run-of-none}
@@ -61,11 +62,8 @@ steps-met = record {
 }
 
 -- ════ a step that is clipped: both current regulators give all that they may, from the end of their integrals
-abbrev bench : Gains
-bench = record { kp = pos 4096; kcor = pos 256; ki = pos 256 }
-
-full : (regulated (pos 4096) (pos 2458) bench (pos 4096) ≡ record { out = pos 4096; x = pos 4096 })
-    × (regulated (pos 4096) (pos 0) bench (pos 4096) ≡ record { out = pos 4096; x = pos 4096 })
+full : (regulated (pos 4096) (pos 2458) current (pos 4096) ≡ record { out = pos 4096; x = pos 4096 })
+    × (regulated (pos 4096) (pos 0) current (pos 4096) ≡ record { out = pos 4096; x = pos 4096 })
     × (inversePark (record { d = pos 4096; q = pos 4096 }) (pos 0) (pos 4096) ≡ record { alpha = pos 4096; beta = pos 4096 })
 unfolding regulated outOf nextOf sumOf inversePark down held
 full = (refl, refl, refl)
