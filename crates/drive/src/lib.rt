@@ -2,7 +2,6 @@
 // that nothing refuses goes through the stages. `step_sound` serves run and stream, which test the record once for many steps.
 ghost use mathlib.Core.Path.{_≡_};
 ghost use mathlib.Core.Bool.{true};
-ghost use Rattle.sine.specs.Sine.{sineTable};
 ghost use Rattle.drive_record.specs.Record.{sound as soundOf};
 ghost use Rattle.drive.specs.Calls.{
   fresh as freshOf,
@@ -108,8 +107,8 @@ fn refused(d: Drive, t: i32, number: i32) -> Stepped
 }
 
 // A step on a record that has been tested: what a run does for each row.
-pub fn step_sound(d: Drive, ia: i32, ib: i32, count: i32, table: &sine::Table) -> Stepped
-    requires { ⌜ (soundOf d ≡ true) × (now table ≡ sineTable) ⌝ }
+pub fn step_sound(d: Drive, ia: i32, ib: i32, count: i32) -> Stepped
+    requires { ⌜ soundOf d ≡ true ⌝ }
     ensures { λ r. ⌜ r ≡ steppedSound d ia ib count ⌝ }
 {
     if d.tripped {
@@ -118,7 +117,7 @@ pub fn step_sound(d: Drive, ia: i32, ib: i32, count: i32, table: &sine::Table) -
     if !stages::sample_ok(ia, ib, count) {
         return refused(with_trip(d), d.settings.t, 6);
     }
-    stages::advance(d, ia, ib, count, table)
+    stages::advance(d, ia, ib, count)
 }
 
 // One step from any record and any sample.
@@ -128,8 +127,7 @@ pub fn step(d: Drive, ia: i32, ib: i32, count: i32) -> Stepped
     if !drive_record::sound(d) {
         return refused(d, 0, 14);
     }
-    let table = sine::table();
-    step_sound(d, ia, ib, count, &table)
+    step_sound(d, ia, ib, count)
 }
 
 fn with_target(d: Drive, wanted: i32) -> Drive

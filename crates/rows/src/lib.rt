@@ -4,7 +4,6 @@ ghost use mathlib.Core.Bool.{true};
 ghost use mathlib.Core.List.{_++_};
 ghost use Prim.Native.Nat.{_+_, _*_, _≤_};
 ghost use lib.ListN.{length, take as takeOf, drop};
-ghost use Rattle.sine.specs.Sine.{sineTable};
 ghost use Rattle.drive_record.specs.Record.{sound as soundOf};
 ghost use Rattle.rows.specs.Rows.{
   one,
@@ -32,14 +31,14 @@ pub struct Ran {
 }
 
 // Row i as one step. The record has been tested, and a step leaves it sound, so that no row tests it again.
-fn row_step(d: Drive, samples: &[i32], i: usize, table: &sine::Table) -> Stepped
-    requires { ⌜ (soundOf d ≡ true) × (now table ≡ sineTable) × (3 * i + 3 ≤ length (now samples)) ⌝ }
+fn row_step(d: Drive, samples: &[i32], i: usize) -> Stepped
+    requires { ⌜ (soundOf d ≡ true) × (3 * i + 3 ≤ length (now samples)) ⌝ }
     ensures { λ r. ⌜ r ≡ rowStepped d (now (samples .entry)) i ⌝ }
 {
     let ia = samples[3 * i];
     let ib = samples[3 * i + 1];
     let count = samples[3 * i + 2];
-    drive::step_sound(d, ia, ib, count, table)
+    drive::step_sound(d, ia, ib, count)
 }
 
 // The three compares and the number of a step, at a place.
@@ -73,9 +72,9 @@ fn clipped_in(s: Stepped) -> usize
     }
 }
 
-// The first n rows; the table is lent, so that it is made once.
-fn rows_run(d: Drive, samples: &[i32], out: &mut [i32], n: usize, table: &sine::Table) -> Ran
-    requires { ⌜ (soundOf d ≡ true) × (now table ≡ sineTable) × (3 * n ≤ length (now samples)) × (4 * n ≤ length (now out)) ⌝ }
+// The first n rows.
+fn rows_run(d: Drive, samples: &[i32], out: &mut [i32], n: usize) -> Ran
+    requires { ⌜ (soundOf d ≡ true) × (3 * n ≤ length (now samples)) × (4 * n ≤ length (now out)) ⌝ }
     ensures { λ r. ⌜ (r ≡ ranOf d (now (samples .entry)) n) × (now (out .exit) ≡ writtenOf d (now (samples .entry)) n ++ drop (4 * n) (now (out .entry))) ⌝ }
 {
     let mut cur = d;
@@ -83,7 +82,7 @@ fn rows_run(d: Drive, samples: &[i32], out: &mut [i32], n: usize, table: &sine::
     let mut clipped: usize = 0;
     let mut i: usize = 0;
     while i < n {
-        let s = row_step(cur, samples, i, table);
+        let s = row_step(cur, samples, i);
         put_row(out, 4 * i, s);
         accepted += accepted_in(s);
         clipped += clipped_in(s);
@@ -132,6 +131,5 @@ pub fn run(d: Drive, samples: &[i32], out: &mut [i32]) -> Ran
         return no_rows(d, 9);
     }
     let n = samples.len() / 3;
-    let table = sine::table();
-    rows_run(d, samples, out, n, &table)
+    rows_run(d, samples, out, n)
 }

@@ -8,7 +8,6 @@ ghost use lib.ListN.{length, take};
 ghost use Rattle.io.specs.Counts.{Counts};
 ghost use Rattle.writing.specs.Decimal.{written};
 ghost use Rattle.stream.specs.Streaming.{asFed, rowsFed, rowsText};
-ghost use Rattle.sine.specs.Sine.{sineTable};
 ghost use Rattle.drive_record.specs.Record.{sound as soundOf};
 use pipes::Got;
 use settings::Checked;
@@ -23,8 +22,8 @@ pub struct Turned {
 }
 
 // What was read is fed, and what it is answered is sent.
-fn turn(s: Stream, got: Got, bytes: &[u8], table: &sine::Table, out: &mut [u8]) -> Turned
-    requires { ⌜ (soundOf (s .tally .drive) ≡ true) × (now table ≡ sineTable)
+fn turn(s: Stream, got: Got, bytes: &[u8], out: &mut [u8]) -> Turned
+    requires { ⌜ (soundOf (s .tally .drive) ≡ true)
         × (48 * length (now bytes) ≤ length (now out)) × Counts (got .size) (now bytes) ⌝ }
     ensures { λ r. ⌜ (asFed (r .stream) ≡ rowsFed (asFed s) (take (got .size) (now (bytes .entry))))
         × (now (out .exit) ≡ written (now (out .entry)) 0 (rowsText (asFed s) (take (got .size) (now (bytes .entry)))))
@@ -32,7 +31,7 @@ fn turn(s: Stream, got: Got, bytes: &[u8], table: &sine::Table, out: &mut [u8]) 
     ensures { λ r. ⌜ (r .unread ≡ got .failed) × (r .going ≡ ltb 0 (got .size) && r .sent && not (r .stream .stopped)) ⌝ }
 {
     let size = got.size;
-    let p = stream::fed(s, &bytes[..size], table, out, 0);
+    let p = stream::fed(s, &bytes[..size], out, 0);
     let stream = p.stream;
     let sent = pipes::send(out, p.place);
     Turned {
@@ -45,14 +44,14 @@ fn turn(s: Stream, got: Got, bytes: &[u8], table: &sine::Table, out: &mut [u8]) 
 
 // Turn by turn, until a line came that is no row, the input is over, or a read or a write failed.
 // A proved loop has to end, and nothing says that the input does: so the turns are counted, from a number that no run uses up.
-fn read_through(first: Turned, bytes: &mut [u8], table: &sine::Table, out: &mut [u8]) -> Turned
-    requires { ⌜ (soundOf (first .stream .tally .drive) ≡ true) × (now table ≡ sineTable) × (48 * length (now bytes) ≤ length (now out)) ⌝ }
+fn read_through(first: Turned, bytes: &mut [u8], out: &mut [u8]) -> Turned
+    requires { ⌜ (soundOf (first .stream .tally .drive) ≡ true) × (48 * length (now bytes) ≤ length (now out)) ⌝ }
 {
     let mut t = first;
     let mut turns = u64::MAX;
     while 0 < turns && t.going {
         let got = pipes::receive(bytes);
-        t = turn(t.stream, got, bytes, table, out);
+        t = turn(t.stream, got, bytes, out);
         turns -= 1;
     }
     t
@@ -75,7 +74,6 @@ fn main() {
         return;
     };
     let d = drive::fresh(s);
-    let table = sine::table();
     let mut bytes = [0u8; 4096];
     // 48 places for each of them, as the stream asks
     let mut out = [0u8; 196608];
@@ -87,7 +85,7 @@ fn main() {
         sent: sent,
         going: sent,
     };
-    let t = read_through(first, &mut bytes, &table, &mut out);
+    let t = read_through(first, &mut bytes, &mut out);
     if t.unread {
         pipes::unread(b"run_rows");
         return;

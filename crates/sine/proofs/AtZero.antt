@@ -5,7 +5,7 @@ use lib.Dec.{lit<}
 use lib.IntN.{pos}
 use Rattle.fixed.specs.Fixed.{down}
 use Rattle.sine.specs.Sine.{rootFrom, root, halved, cos2, cos1, sin1, turn, turnedBy}
-use Rattle.sine.specs.Sine.{rising, half, sineEntry, indexOf, sineIn, cosineIn, sineAt, cosineAt}
+use Rattle.sine.specs.Sine.{rising, half, sineEntry, indexOf, sineAt, cosineAt}
 use Rattle.sine.proofs.Rule.{entry-at}
 
 entry-0 : sineEntry 0 ≡ pos 0
@@ -17,9 +17,9 @@ unfolding sineEntry half rising turnedBy turn cos1 sin1 cos2 halved root rootFro
 entry-64 = refl
 
 pub sine-at-0 : sineAt (pos 0) ≡ pos 0
-unfolding sineAt sineIn indexOf down
+unfolding sineAt indexOf down
 sine-at-0 = entry-at 0 (lit< tt) ∙ entry-0
 
 pub cosine-at-0 : cosineAt (pos 0) ≡ pos 4096
-unfolding cosineAt cosineIn indexOf down
+unfolding cosineAt indexOf down
 cosine-at-0 = entry-at 64 (lit< tt) ∙ entry-64

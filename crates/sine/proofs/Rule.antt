@@ -1,7 +1,7 @@
 -- The table's rule, proved over the table as one. A list of numbers that passes one test against the ladder, which computes at a list that
 -- is written out, is the table; each entry of the table is the ladder's; and sine and cosine lie within ±4096, by one more such test.
 -- Assumes nothing.
-use mathlib.Core.Path.{_≡_, refl, ap, ap₂, _∙_}
+use mathlib.Core.Path.{_≡_, ap, _∙_, subst}
 use mathlib.Core.List.{List, [], _∷_}
 use mathlib.Core.Bool.{Bool, true, false, _&&_}
 use Prim.Native.Nat.{ℕ, zero, suc, _+_, _%_, _≤_, _<_}
@@ -11,9 +11,10 @@ use lib.Dec.{T, eqb, eqb→eq, leb, leb→le}
 use lib.IntN.{ℤ, pos, negsuc, natAbs}
 use lib.ListN.{getD}
 use Rattle.fixed.specs.Fixed.{down}
+use Rattle.fixed.proofs.Choice.{by-order}
 use Rattle.fixed.proofs.Parts.{order}
 use Rattle.sine.specs.Sine.{sineEntry, half, rising, turnedBy, turn, cos1, cos2, sin1, halved}
-use Rattle.sine.specs.Sine.{root, rootFrom, entriesFrom, sineTable, Angle, indexOf, sineIn, cosineIn, sineAt, cosineAt}
+use Rattle.sine.specs.Sine.{root, rootFrom, entriesFrom, sineTable, keptTable, placeOf, foldedIn, Angle, indexOf, sineAt, cosineAt}
 
 and-left : (a b : Bool) → T (a && b) → T a
 and-left true b t = tt
@@ -36,18 +37,17 @@ eqZ→eq (negsuc a) (negsuc b) t = ap negsuc (eqb→eq a b t)
 eqZ→eq (pos a) (negsuc b) t = absurd t
 eqZ→eq (negsuc a) (pos b) t = absurd t
 
-abbrev pub same : List ℤ → List ℤ → Bool
-same [] [] = true
-same [] (y ∷ ys) = false
-same (x ∷ xs) [] = false
-same (x ∷ xs) (y ∷ ys) = eqZ x y && same xs ys
+-- ════ a test of every number below n, and what it says of one of them
+abbrev below : (ℕ → Bool) → ℕ → Bool
+below f zero = true
+below f (suc n) = f n && below f n
 
-pub same→eq : (xs ys : List ℤ) → T (same xs ys) → xs ≡ ys
-same→eq [] [] t = refl
-same→eq [] (y ∷ ys) t = absurd t
-same→eq (x ∷ xs) [] t = absurd t
-same→eq (x ∷ xs) (y ∷ ys) t =
-    ap₂ (λ (z : ℤ) (zs : List ℤ). z ∷ zs) (eqZ→eq x y (and-left (eqZ x y) (same xs ys) t)) (same→eq xs ys (and-right (eqZ x y) (same xs ys) t))
+below-at : (f : ℕ → Bool) (n k : ℕ) → T (below f n) → k < n → T (f k)
+below-at f zero k t h = absurd (not-suc-le-zero h)
+below-at f (suc n) k t h = by-order k n (λ l. below-at f n k (and-right (f n) (below f n) t) l) (λ l. last l)
+  where
+    last : n ≤ k → T (f k)
+    last l = subst (λ (j : ℕ). T (f j)) (omega arith) (and-left (f n) (below f n) t)
 
 -- ════ each entry of the table is the ladder's
 from-at : (j n k : ℕ) → k < n → getD (entriesFrom j n) k (pos 0) ≡ sineEntry (j + k)
@@ -59,6 +59,27 @@ from-at j (suc n) (suc k) h = from-at (suc j) n k (le-of-suc-le-suc h) ∙ ap si
 pub entry-at : (k : ℕ) → k < 256 → getD sineTable k (pos 0) ≡ sineEntry k
 unfolding sineTable
 entry-at k h = from-at 0 256 k h ∙ ap sineEntry (omega arith)
+
+-- ════ the folds: each of the 256 entries is read from entries 0 to 64, by one test over all of them
+abbrev folded : ℕ → Bool
+folded k = eqZ (foldedIn keptTable k) (sineEntry k)
+
+all-folded : T (below folded 256)
+unfolding foldedIn placeOf keptTable entriesFrom sineEntry half rising turnedBy turn cos1 cos2 sin1 halved root rootFrom down
+all-folded = tt
+
+pub folded-is : (k : ℕ) → k < 256 → foldedIn keptTable k ≡ sineEntry k
+folded-is k h = eqZ→eq (foldedIn keptTable k) (sineEntry k) (below-at folded 256 k all-folded h)
+
+abbrev among-kept : ℕ → Bool
+among-kept k = leb (placeOf k) 64
+
+all-among-kept : T (below among-kept 256)
+unfolding placeOf
+all-among-kept = tt
+
+pub place-within : (k : ℕ) → k < 256 → placeOf k ≤ 64
+place-within k h = leb→le (placeOf k) 64 (below-at among-kept 256 k all-among-kept h)
 
 -- ════ within ±4096
 abbrev inside : ℤ → Bool
@@ -77,8 +98,15 @@ table-inside : T (all sineTable)
 unfolding sineTable entriesFrom sineEntry half rising turnedBy turn cos1 cos2 sin1 halved root rootFrom down
 table-inside = tt
 
+kept-inside : T (all keptTable)
+unfolding keptTable entriesFrom sineEntry half rising turnedBy turn cos1 cos2 sin1 halved root rootFrom down
+kept-inside = tt
+
 entry-size : (k : ℕ) → natAbs (getD sineTable k (pos 0)) ≤ 4096
 entry-size k = leb→le (natAbs (getD sineTable k (pos 0))) 4096 (all-at sineTable k table-inside)
+
+pub kept-size : (i : ℕ) → natAbs (getD keptTable i (pos 0)) ≤ 4096
+kept-size i = leb→le (natAbs (getD keptTable i (pos 0))) 4096 (all-at keptTable i kept-inside)
 
 -- ════ what stands above this crate needs of the two readings
 pub index-below : (a : ℤ) → Angle a → indexOf a < 256
@@ -88,26 +116,17 @@ index-below (negsuc n) h = absurd (h .lo .le)
 
 -- an angle's sine is the ladder's entry at its index, its cosine the entry a quarter on
 pub sine-entry : (a : ℤ) → Angle a → sineAt a ≡ sineEntry (indexOf a)
-unfolding sineAt sineIn
+unfolding sineAt
 sine-entry a h = entry-at (indexOf a) (index-below a h)
 
 pub cosine-entry : (a : ℤ) → Angle a → cosineAt a ≡ sineEntry ((indexOf a + 64) % 256)
-unfolding cosineAt cosineIn
+unfolding cosineAt
 cosine-entry a h = entry-at ((indexOf a + 64) % 256) (omega arith)
 
 pub sine-size : (a : ℤ) → natAbs (sineAt a) ≤ 4096
-unfolding sineAt sineIn
+unfolding sineAt
 sine-size a = entry-size (indexOf a)
 
 pub cosine-size : (a : ℤ) → natAbs (cosineAt a) ≤ 4096
-unfolding cosineAt cosineIn
-cosine-size a = entry-size ((indexOf a + 64) % 256)
-
--- the readings in a table that is the sine's
-pub sine-in-is : (t : List ℤ) (a : ℤ) → t ≡ sineTable → sineIn t a ≡ sineAt a
-unfolding sineAt
-sine-in-is t a e = ap (λ (l : List ℤ). sineIn l a) e
-
-pub cosine-in-is : (t : List ℤ) (a : ℤ) → t ≡ sineTable → cosineIn t a ≡ cosineAt a
 unfolding cosineAt
-cosine-in-is t a e = ap (λ (l : List ℤ). cosineIn l a) e
+cosine-size a = entry-size ((indexOf a + 64) % 256)

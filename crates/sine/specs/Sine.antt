@@ -1,4 +1,4 @@
--- The sine table and its two readings (docs/RULES.md, rule 4 and "Sine table"). The logic has no π: the table is built by halving an angle
+-- The sine table, its two readings and what is kept of it (docs/RULES.md, rule 4 and "Sine table"). The logic has no π: the table is built by halving an angle
 -- at the scale S = 2^40 and turning step by step, all whole numbers, all rounded down.
 use Prim.Native.Nat.{ℕ, zero, suc, _+_, _*_, _-_, _/_, _%_, _^_}
 use mathlib.Core.Bool.{cond}
@@ -82,16 +82,21 @@ entriesFrom k (suc n) = sineEntry k ∷ entriesFrom (suc k) n
 unfoldable pub sineTable : List ℤ
 sineTable = entriesFrom 0 256
 
--- the sine of an angle in a table
-unfoldable pub sineIn : List ℤ → ℤ → ℤ
-sineIn t a = getD t (indexOf a) (pos 0)
-
--- cosine is index + 64, modulo 256
-unfoldable pub cosineIn : List ℤ → ℤ → ℤ
-cosineIn t a = getD t ((indexOf a + 64) % 256) (pos 0)
-
+-- sine is the entry at the index, cosine the one at index + 64, modulo 256
 unfoldable pub sineAt : ℤ → ℤ
-sineAt a = sineIn sineTable a
+sineAt a = getD sineTable (indexOf a) (pos 0)
 
 unfoldable pub cosineAt : ℤ → ℤ
-cosineAt a = cosineIn sineTable a
+cosineAt a = getD sineTable ((indexOf a + 64) % 256) (pos 0)
+
+-- entries 0 to 64, which are all that is kept
+unfoldable pub keptTable : List ℤ
+keptTable = entriesFrom 0 65
+
+-- where among them entry k stands, k from 0 to 255: there and back in each half
+unfoldable pub placeOf : ℕ → ℕ
+placeOf k = cond (leb k 64) k (cond (leb k 128) (128 - k) (cond (leb k 192) (k - 128) (256 - k)))
+
+-- entry k, read from entries 0 to 64: above 128 the sign is turned
+unfoldable pub foldedIn : List ℤ → ℕ → ℤ
+foldedIn t k = cond (leb k 128) (getD t (placeOf k) (pos 0)) (negℤ (getD t (placeOf k) (pos 0)))

@@ -1,275 +1,109 @@
-// The sine table and its two readings.
+// Sine and cosine of an angle, from a quarter of the table.
 ghost use mathlib.Core.Path.{_≡_};
-ghost use Rattle.sine.specs.Sine.{sineTable, Angle, indexOf, sineIn, cosineIn};
+ghost use Prim.Native.Nat.{_%_, _≤_, _<_};
+ghost use lib.IntN.{pos};
+ghost use lib.ListN.{getD};
+ghost use Rattle.sine.specs.Sine.{sineEntry, Angle, indexOf, sineAt, cosineAt, keptTable, placeOf};
 
-// How the table is stored is known in this file alone.
-pub type Table = [i32; 256];
-
-// 4096·sin(2πk/256), to the nearest whole number.
-const SINE: Table = [
-    0,
-    101,
-    201,
-    301,
-    401,
-    501,
-    601,
-    700,
-    799,
-    897,
-    995,
-    1092,
-    1189,
-    1285,
-    1380,
-    1474,
-    1567,
-    1660,
-    1751,
-    1842,
-    1931,
-    2019,
-    2106,
-    2191,
-    2276,
-    2359,
-    2440,
-    2520,
-    2598,
-    2675,
-    2751,
-    2824,
-    2896,
-    2967,
-    3035,
-    3102,
-    3166,
-    3229,
-    3290,
-    3349,
-    3406,
-    3461,
-    3513,
-    3564,
-    3612,
-    3659,
-    3703,
-    3745,
-    3784,
-    3822,
-    3857,
-    3889,
-    3920,
-    3948,
-    3973,
-    3996,
-    4017,
-    4036,
-    4052,
-    4065,
-    4076,
-    4085,
-    4091,
-    4095,
-    4096,
-    4095,
-    4091,
-    4085,
-    4076,
-    4065,
-    4052,
-    4036,
-    4017,
-    3996,
-    3973,
-    3948,
-    3920,
-    3889,
-    3857,
-    3822,
-    3784,
-    3745,
-    3703,
-    3659,
-    3612,
-    3564,
-    3513,
-    3461,
-    3406,
-    3349,
-    3290,
-    3229,
-    3166,
-    3102,
-    3035,
-    2967,
-    2896,
-    2824,
-    2751,
-    2675,
-    2598,
-    2520,
-    2440,
-    2359,
-    2276,
-    2191,
-    2106,
-    2019,
-    1931,
-    1842,
-    1751,
-    1660,
-    1567,
-    1474,
-    1380,
-    1285,
-    1189,
-    1092,
-    995,
-    897,
-    799,
-    700,
-    601,
-    501,
-    401,
-    301,
-    201,
-    101,
-    0,
-    -101,
-    -201,
-    -301,
-    -401,
-    -501,
-    -601,
-    -700,
-    -799,
-    -897,
-    -995,
-    -1092,
-    -1189,
-    -1285,
-    -1380,
-    -1474,
-    -1567,
-    -1660,
-    -1751,
-    -1842,
-    -1931,
-    -2019,
-    -2106,
-    -2191,
-    -2276,
-    -2359,
-    -2440,
-    -2520,
-    -2598,
-    -2675,
-    -2751,
-    -2824,
-    -2896,
-    -2967,
-    -3035,
-    -3102,
-    -3166,
-    -3229,
-    -3290,
-    -3349,
-    -3406,
-    -3461,
-    -3513,
-    -3564,
-    -3612,
-    -3659,
-    -3703,
-    -3745,
-    -3784,
-    -3822,
-    -3857,
-    -3889,
-    -3920,
-    -3948,
-    -3973,
-    -3996,
-    -4017,
-    -4036,
-    -4052,
-    -4065,
-    -4076,
-    -4085,
-    -4091,
-    -4095,
-    -4096,
-    -4095,
-    -4091,
-    -4085,
-    -4076,
-    -4065,
-    -4052,
-    -4036,
-    -4017,
-    -3996,
-    -3973,
-    -3948,
-    -3920,
-    -3889,
-    -3857,
-    -3822,
-    -3784,
-    -3745,
-    -3703,
-    -3659,
-    -3612,
-    -3564,
-    -3513,
-    -3461,
-    -3406,
-    -3349,
-    -3290,
-    -3229,
-    -3166,
-    -3102,
-    -3035,
-    -2967,
-    -2896,
-    -2824,
-    -2751,
-    -2675,
-    -2598,
-    -2520,
-    -2440,
-    -2359,
-    -2276,
-    -2191,
-    -2106,
-    -2019,
-    -1931,
-    -1842,
-    -1751,
-    -1660,
-    -1567,
-    -1474,
-    -1380,
-    -1285,
-    -1189,
-    -1092,
-    -995,
-    -897,
-    -799,
-    -700,
-    -601,
-    -501,
-    -401,
-    -301,
-    -201,
-    -101,
-];
-
-// A reader of many angles makes the table once and lends it: a constant is written out anew by each call that names it.
-pub fn table() -> Table
-    ensures { λ r. ⌜ r ≡ sineTable ⌝ }
+// Entries 0 to 64: 4096·sin(2πi/256), to the nearest whole number. They stand in a match, of which the compiler makes a table that is
+// read where it lies; a constant array would be written to the stack by each call that names it.
+fn quarter(i: usize) -> i16
+    requires { ⌜ i ≤ 64 ⌝ }
+    ensures { λ r. ⌜ r ≡ getD keptTable i (pos 0) ⌝ }
 {
-    SINE
+    match i {
+        0 => 0,
+        1 => 101,
+        2 => 201,
+        3 => 301,
+        4 => 401,
+        5 => 501,
+        6 => 601,
+        7 => 700,
+        8 => 799,
+        9 => 897,
+        10 => 995,
+        11 => 1092,
+        12 => 1189,
+        13 => 1285,
+        14 => 1380,
+        15 => 1474,
+        16 => 1567,
+        17 => 1660,
+        18 => 1751,
+        19 => 1842,
+        20 => 1931,
+        21 => 2019,
+        22 => 2106,
+        23 => 2191,
+        24 => 2276,
+        25 => 2359,
+        26 => 2440,
+        27 => 2520,
+        28 => 2598,
+        29 => 2675,
+        30 => 2751,
+        31 => 2824,
+        32 => 2896,
+        33 => 2967,
+        34 => 3035,
+        35 => 3102,
+        36 => 3166,
+        37 => 3229,
+        38 => 3290,
+        39 => 3349,
+        40 => 3406,
+        41 => 3461,
+        42 => 3513,
+        43 => 3564,
+        44 => 3612,
+        45 => 3659,
+        46 => 3703,
+        47 => 3745,
+        48 => 3784,
+        49 => 3822,
+        50 => 3857,
+        51 => 3889,
+        52 => 3920,
+        53 => 3948,
+        54 => 3973,
+        55 => 3996,
+        56 => 4017,
+        57 => 4036,
+        58 => 4052,
+        59 => 4065,
+        60 => 4076,
+        61 => 4085,
+        62 => 4091,
+        63 => 4095,
+        _ => 4096,
+    }
+}
+
+// Where entry k stands among entries 0 to 64.
+fn place(k: usize) -> usize
+    requires { ⌜ k < 256 ⌝ }
+    ensures { λ r. ⌜ r ≡ placeOf k ⌝ }
+{
+    if k <= 64 {
+        return k;
+    }
+    if k <= 128 {
+        return 128 - k;
+    }
+    if k <= 192 {
+        return k - 128;
+    }
+    256 - k
+}
+
+// Entry i of the table, i counted round and round. The sign is turned in 16 bits, so that the numbers above are kept in 16.
+fn entry(i: usize) -> i16
+    ensures { λ r. ⌜ r ≡ sineEntry (i % 256) ⌝ }
+{
+    let k = i % 256;
+    let size = quarter(place(k));
+    if k <= 128 { size } else { -size }
 }
 
 // Which entry an angle reads.
@@ -280,20 +114,18 @@ fn index(angle: i32) -> usize
     angle as usize / 256
 }
 
-// The sine of an angle 0..65535, 65536 to the turn, in a table that was made before.
-pub fn sine_in(t: &Table, angle: i32) -> i32
+// The sine of an angle 0..65535, 65536 to the turn.
+pub fn sine(angle: i32) -> i32
     requires { ⌜ Angle angle ⌝ }
-    ensures { λ r. ⌜ r ≡ sineIn (now (t .entry)) angle ⌝ }
+    ensures { λ r. ⌜ r ≡ sineAt angle ⌝ }
 {
-    let i = index(angle);
-    t[i]
+    entry(index(angle)) as i32
 }
 
-// The cosine: a quarter of the table on.
-pub fn cosine_in(t: &Table, angle: i32) -> i32
+// The cosine: a quarter of a turn on.
+pub fn cosine(angle: i32) -> i32
     requires { ⌜ Angle angle ⌝ }
-    ensures { λ r. ⌜ r ≡ cosineIn (now (t .entry)) angle ⌝ }
+    ensures { λ r. ⌜ r ≡ cosineAt angle ⌝ }
 {
-    let i = (index(angle) + 64) % 256;
-    t[i]
+    entry(index(angle) + 64) as i32
 }

@@ -3,7 +3,6 @@ ghost use mathlib.Core.Path.{_≡_};
 ghost use mathlib.Core.Bool.{true};
 ghost use Prim.Native.Nat.{_≤_};
 ghost use lib.IntN.{natAbs, _-ℤ_};
-ghost use Rattle.sine.specs.Sine.{sineTable};
 ghost use Rattle.regulator.specs.Regulator.{RegulatorSized};
 ghost use Rattle.shaft.specs.Shaft.{fastest, Count};
 ghost use Rattle.drive_record.specs.Record.{sound as soundOf};
@@ -196,14 +195,14 @@ fn rules_6_to_9(d: Drive, i: Rotor, sin: i32, cos: i32) -> Stepped
     }
 }
 
-// One accepted step; the table is lent, so that a run makes it once.
-pub fn advance(d: Drive, ia: i32, ib: i32, count: i32, table: &sine::Table) -> Stepped
-    requires { ⌜ (soundOf d ≡ true) × (sampleOk ia ib count ≡ true) × (now table ≡ sineTable) ⌝ }
+// One accepted step.
+pub fn advance(d: Drive, ia: i32, ib: i32, count: i32) -> Stepped
+    requires { ⌜ (soundOf d ≡ true) × (sampleOk ia ib count ≡ true) ⌝ }
     ensures { λ r. ⌜ r ≡ advanced d ia ib count ⌝ }
 {
     let angle = d.field.angle;
-    let sin = sine::sine_in(table, angle);
-    let cos = sine::cosine_in(table, angle);
+    let sin = sine::sine(angle);
+    let cos = sine::cosine(angle);
     let n = rules_1_and_2(d, count);
     rules_6_to_9(n, currents(ia, ib, sin, cos), sin, cos)
 }

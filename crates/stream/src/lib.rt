@@ -4,7 +4,6 @@ ghost use mathlib.Core.Bool.{true, cond, not, _&&_};
 ghost use Prim.Native.Nat.{_+_, _*_, _≤_};
 ghost use lib.Dec.{eqb};
 ghost use lib.ListN.{length};
-ghost use Rattle.sine.specs.Sine.{sineTable};
 ghost use Rattle.writing.specs.Decimal.{written};
 ghost use Rattle.drive_record.specs.Record.{sound as soundOf};
 ghost use Rattle.feeding.specs.Lines.{oneMore};
@@ -57,12 +56,12 @@ fn is_row(l: Line) -> bool
 }
 
 // A row is one step, and its answer is a line: four numbers of at most eleven bytes, with a byte behind each.
-fn row_told(t: Tally, row: [i32; 3], table: &sine::Table, out: &mut [u8], at: usize) -> Told
-    requires { ⌜ (soundOf (t .drive) ≡ true) × (now table ≡ sineTable) × (at + 48 ≤ length (now out)) ⌝ }
+fn row_told(t: Tally, row: [i32; 3], out: &mut [u8], at: usize) -> Told
+    requires { ⌜ (soundOf (t .drive) ≡ true) × (at + 48 ≤ length (now out)) ⌝ }
     ensures { λ r. ⌜ (r .tally ≡ tallyOf t row) × (r .place ≡ at + length (answerText t row))
         × (now (out .exit) ≡ written (now (out .entry)) at (answerText t row)) × (r .place ≤ at + 48) ⌝ }
 {
-    let s = drive::step_sound(t.drive, row[0], row[1], row[2], table);
+    let s = drive::step_sound(t.drive, row[0], row[1], row[2]);
     let answer = [s.pulses.a, s.pulses.b, s.pulses.c, s.number];
     let place = writing::put_line(&answer, 4, out, at);
     let accepted = fixed::within(0, 0, s.number);
@@ -105,8 +104,8 @@ pub fn start(d: Drive) -> Stream
 }
 
 // The bytes of a chunk, whether lines stand whole in it or not. A row has a byte at least, so 48 places for each byte are room for any answers.
-pub fn fed(s: Stream, chunk: &[u8], table: &sine::Table, out: &mut [u8], at: usize) -> Passed
-    requires { ⌜ (soundOf (s .tally .drive) ≡ true) × (now table ≡ sineTable) × (at + 48 * length (now chunk) ≤ length (now out)) ⌝ }
+pub fn fed(s: Stream, chunk: &[u8], out: &mut [u8], at: usize) -> Passed
+    requires { ⌜ (soundOf (s .tally .drive) ≡ true) × (at + 48 * length (now chunk) ≤ length (now out)) ⌝ }
     ensures { λ r. ⌜ (asFed (r .stream) ≡ rowsFed (asFed s) (now (chunk .entry))) × (soundOf (r .stream .tally .drive) ≡ true) ⌝ }
     ensures { λ r. ⌜ (r .place ≡ at + length (rowsText (asFed s) (now (chunk .entry))))
         × (now (out .exit) ≡ written (now (out .entry)) at (rowsText (asFed s) (now (chunk .entry))))
@@ -123,7 +122,7 @@ pub fn fed(s: Stream, chunk: &[u8], table: &sine::Table, out: &mut [u8], at: usi
         let f = feeding::line_fed(line, chunk, i, &mut row);
         i = f.place;
         if f.ended & is_row(f.line) {
-            let t = row_told(tally, row, table, out, place);
+            let t = row_told(tally, row, out, place);
             tally = t.tally;
             place = t.place;
             line = text::line_start();

@@ -10,12 +10,11 @@ fn show(v: i32) {
 }
 
 fn main() {
-    let table = sine::table();
-    show(sine::sine_in(&table, 0));
-    show(sine::sine_in(&table, 256));
-    show(sine::sine_in(&table, 4096));
-    show(sine::sine_in(&table, 8192));
-    show(sine::sine_in(&table, 16128));
-    show(sine::sine_in(&table, 16384));
-    show(sine::sine_in(&table, 255));
+    show(sine::sine(0));
+    show(sine::sine(256));
+    show(sine::sine(4096));
+    show(sine::sine(8192));
+    show(sine::sine(16128));
+    show(sine::sine(16384));
+    show(sine::sine(255));
 }

@@ -19,12 +19,12 @@ is-sound c = yes (c .before .sound .ensures) (c .if1 .left)
 returns-2 : tie.Need-returns-2
 unfolding stepped steppedSound broken
 returns-2 c =
-    let e = c .before .before .before in
+    let e = c .before in
     let f = e .before .before .fits in
     simp (c .step-sound .ensures, toZ-ofZ (f .ia), toZ-ofZ (f .ib), toZ-ofZ (f .count), is-sound e)
 
 step-sound-requires : tie.Need-step-sound-requires
-step-sound-requires c κs = (is-sound (c .before .before), c .before .table .ensures)
+step-sound-requires c κs = is-sound c
 
 pub step-spec : {M : Type 1} → statement M
-step-spec = tie.close (tie.spec (λ c κs. tt) (λ c κs. tt) returns (λ c κs. tt) step-sound-requires returns-2)
+step-spec = tie.close (tie.spec (λ c κs. tt) (λ c κs. tt) returns step-sound-requires returns-2)

@@ -52,7 +52,7 @@ advance-requires : tie.Need-advance-requires
 advance-requires c κs =
     let s = c .before .before .before in
     let f = s .fits in
-    (s .pre .0, rw (toZ-ofZ (f .ia), toZ-ofZ (f .ib), toZ-ofZ (f .count)) (taken c), s .pre .1)
+    (s .pre, rw (toZ-ofZ (f .ia), toZ-ofZ (f .ib), toZ-ofZ (f .count)) (taken c))
 
 pub step-sound-spec : {M : Type 1} → statement M
 step-sound-spec =

@@ -10,10 +10,10 @@ use Rattle.rows.proofs.rows_run.Statement.{statement}
 use Rattle.rows.proofs.rows_run.Tie as tie
 
 abbrev Inv-loop : tie.InvT-loop
-Inv-loop samples out₀ n table cur₀ accepted₀ clipped₀ i₀ out cur accepted clipped i = Upto cur₀ samples out₀ n out cur accepted clipped i
+Inv-loop samples out₀ n cur₀ accepted₀ clipped₀ i₀ out cur accepted clipped i = Upto cur₀ samples out₀ n out cur accepted clipped i
 
 abbrev μ-loop : tie.MeasureT-loop
-μ-loop samples out₀ n table cur₀ accepted₀ clipped₀ i₀ out cur accepted clipped i = n - i
+μ-loop samples out₀ n cur₀ accepted₀ clipped₀ i₀ out cur accepted clipped i = n - i
 
 returns : tie.Need-returns Inv-loop μ-loop
 returns c =

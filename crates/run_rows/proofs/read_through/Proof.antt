@@ -9,10 +9,10 @@ use Rattle.run_rows.proofs.read_through.Statement.{statement}
 use Rattle.run_rows.proofs.read_through.Tie as tie
 
 abbrev Inv-loop : tie.InvT-loop
-Inv-loop bytes₀ table out₀ t₀ turns₀ bytes out t turns = (length bytes ≡ length bytes₀) × (length out ≡ length out₀) × (sound (t .stream .tally .drive) ≡ true)
+Inv-loop bytes₀ out₀ t₀ turns₀ bytes out t turns = (length bytes ≡ length bytes₀) × (length out ≡ length out₀) × (sound (t .stream .tally .drive) ≡ true)
 
 abbrev μ-loop : tie.MeasureT-loop
-μ-loop bytes₀ table out₀ t₀ turns₀ bytes out t turns = turns
+μ-loop bytes₀ out₀ t₀ turns₀ bytes out t turns = turns
 
 turn-requires : tie.Need-turn-requires Inv-loop μ-loop
 turn-requires c κs =

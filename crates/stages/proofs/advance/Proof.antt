@@ -9,7 +9,7 @@ use Rattle.field.specs.Field.{angles}
 use Rattle.fixed.proofs.Reading.{Reads, m32, word, result, stored, bound}
 use Rattle.frames.specs.declared.Rotor.{Rotor}
 use Rattle.sine.specs.Sine.{sineAt, cosineAt, Angle}
-use Rattle.sine.proofs.Rule.{sine-in-is, cosine-in-is, sine-size, cosine-size}
+use Rattle.sine.proofs.Rule.{sine-size, cosine-size}
 use Rattle.shaft.specs.Shaft.{Count}
 use Rattle.stages.specs.Step.{rules1And2, currents, rules6To9, rules3To9, advanced, SineCosineSized}
 use Rattle.drive_record.proofs.Ranges.{Sound, sound→, sound←}
@@ -25,15 +25,15 @@ back s = from-bits (s .args .d) _ (s .good .0 .1 .1)
 is-sound : (s : tie.Start) → Sound (s .args .d)
 is-sound s = sound→ (s .args .d) (s .pre .0)
 
-sin : (c : tie.After-sine-in) → Reads (m32 (c .sine-in .result)) (sineAt (c .before .before .args .d .field .angle)) 4096
+sin : (c : tie.After-sine) → Reads (m32 (c .sine .result)) (sineAt (c .before .before .args .d .field .angle)) 4096
 sin c =
     let s = c .before .before in
-    stored w32 (result (c .sine-in .ensures ∙ sine-in-is _ _ (s .pre .2) ∙ ap sineAt (back s .field .angle)) (sine-size (s .args .d .field .angle))) tt
+    stored w32 (result (c .sine .ensures ∙ ap sineAt (back s .field .angle)) (sine-size (s .args .d .field .angle))) tt
 
-cos : (c : tie.After-cosine-in) → Reads (m32 (c .cosine-in .result)) (cosineAt (c .before .before .before .args .d .field .angle)) 4096
+cos : (c : tie.After-cosine) → Reads (m32 (c .cosine .result)) (cosineAt (c .before .before .before .args .d .field .angle)) 4096
 cos c =
     let s = c .before .before .before in
-    stored w32 (result (c .cosine-in .ensures ∙ cosine-in-is _ _ (s .pre .2) ∙ ap cosineAt (back s .field .angle)) (cosine-size (s .args .d .field .angle))) tt
+    stored w32 (result (c .cosine .ensures ∙ ap cosineAt (back s .field .angle)) (cosine-size (s .args .d .field .angle))) tt
 
 after-rules-1-and-2 : (c : tie.After-rules-1-and-2)
     → c .rules-1-and-2 .result ≡ rules1And2 (c .before .before .before .before .args .d) (c .before .before .before .before .args .count)
@@ -64,7 +64,7 @@ angle s =
     rw (back s .field .angle) (record { lo = in-lo angles a h; hi = in-hi angles a h })
 
 -- what the stages ask of sine and cosine
-turns : (c : tie.After-cosine-in) → SineCosineSized (m32 (c .before .sine-in .result)) (m32 (c .cosine-in .result))
+turns : (c : tie.After-cosine) → SineCosineSized (m32 (c .before .sine .result)) (m32 (c .cosine .result))
 turns c = record { sin-size = bound (sin (c .before)) tt; cos-size = bound (cos c) tt }
 
 rules-1-and-2-requires : tie.Need-rules-1-and-2-requires

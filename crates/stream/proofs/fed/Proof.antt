@@ -14,12 +14,12 @@ use Rattle.stream.proofs.fed.Statement.{statement}
 use Rattle.stream.proofs.fed.Tie as tie
 
 abbrev Inv-loop : tie.InvT-loop
-Inv-loop chunk table out₀ at tally₀ line₀ row₀ begun₀ stopped₀ place₀ i₀ out tally line row begun stopped place i =
+Inv-loop chunk out₀ at tally₀ line₀ row₀ begun₀ stopped₀ place₀ i₀ out tally line row begun stopped place i =
     Telling (record { tally = tally₀; line = line₀; row = row₀; begun = begun₀; stopped = stopped₀ }) chunk at out₀ out
     (record { tally = tally; line = line; row = row; begun = begun; stopped = stopped }) place i
 
 abbrev μ-loop : tie.MeasureT-loop
-μ-loop chunk table out₀ at tally₀ line₀ row₀ begun₀ stopped₀ place₀ i₀ out tally line row begun stopped place i =
+μ-loop chunk out₀ at tally₀ line₀ row₀ begun₀ stopped₀ place₀ i₀ out tally line row begun stopped place i =
     length chunk - i
 
 -- that the stream's row has three numbers is part of what an array is
