@@ -29,7 +29,7 @@ returns c =
     ∙ sym (step-is-sound d _ _ _ (sound→ d (s .pre .0)))
 
 step-sound-requires : tie.Need-step-sound-requires
-step-sound-requires c κs = let s = c .before .before .before in (s .pre .0, s .pre .1)
+step-sound-requires c κs = c .before .before .before .pre .0
 
 -- what `search` closes is that the three places are in the samples
 pub row-step-spec : {M : Type 1} → statement M

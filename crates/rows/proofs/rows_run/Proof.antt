@@ -43,7 +43,7 @@ loop-again c =
     (k .row-step .ensures) (r .put-row .ensures) (r .put-row .kept .0) (c .before .before .accepted-in .ensures) (c .before .clipped-in .ensures)
 
 row-step-requires : tie.Need-row-step-requires Inv-loop μ-loop
-row-step-requires c κs = (sound← (c .before .loop .cur) (c .before .loop .inv .is-sound), c .before .before .pre .1, omega arith)
+row-step-requires c κs = (sound← (c .before .loop .cur) (c .before .loop .inv .is-sound), omega arith)
 
 add-accepted : tie.Need-add-accepted Inv-loop μ-loop
 add-accepted c = omega (arith, one-most (isAccepted (c .before .before .before .before .row-step .result)))

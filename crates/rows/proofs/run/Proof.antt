@@ -55,20 +55,17 @@ fit c = yes (c .before .rows-fit .ensures) (c .if2 .left)
 
 returns-4 : tie.Need-returns-4
 returns-4 c =
-    let e = c .before .before .before .before .before in
+    let e = c .before .before .before in
     let k = e .before .before in
     let s = k .before .before .before .before .before .args in
     let r = run-0 (s .d) (now (s .samples)) (now (s .out)) (not-broken k) (fit e) in
     rw (r .0, r .1) (c .before .rows-run .ensures)
 
 rows-run-requires : tie.Need-rows-run-requires
-rows-run-requires c κs =
-    let k = c .before .before in
-    let e = k .before in
-    (is-sound (e .before .before), k .table .ensures, omega arith, room _ _ (fit e))
+rows-run-requires c κs = let e = c .before in (is-sound (e .before .before), omega arith, room _ _ (fit e))
 
 pub run-spec : {M : Type 1} → statement M
 run-spec =
     tie.close
     (tie.spec (λ c κs. tt) (λ c. search needs) (λ c. search needs) (λ c κs. tt) returns (λ c κs. tt) (λ c κs. tt) returns-2 (λ c κs. tt) (λ c κs. tt)
-    returns-3 (λ c κs. tt) rows-run-requires (λ c. search needs) returns-4)
+    returns-3 rows-run-requires (λ c. search needs) returns-4)

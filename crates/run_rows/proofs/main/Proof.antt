@@ -12,12 +12,11 @@ use Rattle.run_rows.proofs.main.Tie as tie
 
 read-through-requires : tie.Need-read-through-requires
 read-through-requires c κs =
-    let s = c .before .before .before in
-    let t = s .before .before .before .before .before .before in
-    let f = t .before in
+    let s = c .before .before in
+    let f = s .before .before .before .before .before .before in
     let k = f .before .before in
     let d = ap sound (f .fresh .ensures) ∙ checked-sound _ _ (sym (k .before .before .check .ensures) ∙ k .s .given .1) in
-    (ap (λ (f : Fed Tally). sound (f .kept .drive)) (s .start .ensures) ∙ d, t .table .ensures, omega arith)
+    (ap (λ (f : Fed Tally). sound (f .kept .drive)) (s .start .ensures) ∙ d, omega arith)
 
 pub main-spec : {M : Type 1} → statement M
 main-spec =
@@ -28,7 +27,6 @@ main-spec =
     (λ c. search needs)
     (λ c. search needs)
     (λ c. search needs)
-    (λ c κs. search needs)
     (λ c κs. search needs)
     (λ c. search needs)
     (λ c κs. search needs)

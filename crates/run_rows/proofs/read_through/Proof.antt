@@ -20,14 +20,14 @@ turn-requires c κs =
     let l = r .before .before .before .before in
     let i = l .loop .inv in
     let p = l .before .before .before .pre in
-    (i .2, p .1, omega (arith, r .receive .kept .0, i .0, i .1, p .2), r .receive .ensures)
+    (i .2, omega (arith, r .receive .kept .0, i .0, i .1, p .1), r .receive .ensures)
 
 loop-again : tie.Need-loop-again Inv-loop μ-loop
 loop-again c =
     let t = c .before .before in
     let r = t .before .before .before .before .before in
     let i = r .before .before .before .before .loop .inv in
-    (r .receive .kept .0 ∙ i .0, t .turn .kept .1 .1 .1 .1 .0 ∙ i .1, t .turn .ensures .0 .2)
+    (r .receive .kept .0 ∙ i .0, t .turn .kept .1 .1 .1 .0 ∙ i .1, t .turn .ensures .0 .2)
 
 pub read-through-spec : {M : Type 1} → statement M
 read-through-spec =

@@ -27,13 +27,13 @@ loop-holds : tie.Need-loop-holds Inv-loop μ-loop
 loop-holds c =
     let s = c .before .before .before .before .before in
     let w = length-unmapped _ (s .args .s .row) 3 (s .good .0 .1 .1 .1 .1 .0 .1 .0 .1) in
-    telling-start (s .args .s) (now (s .args .chunk)) (s .args .at) (now (s .args .out)) (sound→ (s .args .s .tally .drive) (s .pre .0)) w (s .pre .2)
+    telling-start (s .args .s) (now (s .args .chunk)) (s .args .at) (now (s .args .out)) (sound→ (s .args .s .tally .drive) (s .pre .0)) w (s .pre .1)
 
 row-told-requires : tie.Need-row-told-requires Inv-loop μ-loop
 row-told-requires c κs =
     let f = c .before .before .before .before .before in
     let l = f .before .before .before .before in
-    (sound← (l .loop .tally .drive) (l .loop .inv .is-sound), l .before .before .before .before .before .before .pre .1, omega (arith, f .line-fed .ensures))
+    (sound← (l .loop .tally .drive) (l .loop .inv .is-sound), omega (arith, f .line-fed .ensures))
 
 -- the two ways through a turn: a row, or bytes that end none
 loop-again : tie.Need-loop-again Inv-loop μ-loop
