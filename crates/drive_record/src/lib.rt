@@ -65,9 +65,12 @@ pub fn words_ok(d: Drive) -> bool
         & integrals_ok(d.settings, d.integrals)
 }
 
-// Whether a record is one that a call may work on: number 14 is given where it is not.
+// Whether a record is one that a call may work on: number 14 is given where it is not. The words are looked at once the settings have passed.
 pub fn sound(d: Drive) -> bool
     ensures { λ r. ⌜ r ≡ soundOf d ⌝ }
 {
-    settings::is_accepted(d.settings) & words_ok(d)
+    if !settings::is_accepted(d.settings) {
+        return false;
+    }
+    words_ok(d)
 }

@@ -1,5 +1,8 @@
-// The run, as often as standard input has bytes: 32 rows a run or, where the first byte is `e`, none. So the instructions that one row needs are
-// (those of one more run with rows − those of one more without) / 32, whatever reading, starting and writing cost.
+// The run, as often as standard input has bytes: 32 rows a run or, where the first byte is `e`, 16, the first and the last of them in turn. So what
+// a run needs besides its rows is (those instructions of two more runs of 16 − those of one more run of 32), whatever reading, starting and writing
+// cost, and the rest of the run of 32 is its rows.
+ghost use Prim.Native.Nat.{_+_, _≤_};
+ghost use lib.ListN.{length};
 use drive_record::Drive;
 use settings::Checked;
 
@@ -103,18 +106,36 @@ const SAMPLES: [i32; 96] = [
     78,
 ];
 
-// How many steps the last run accepted; each run goes on with the drive that the one before it left.
-fn runs(d: Drive, samples: &[i32], out: &mut [i32], times: usize) -> usize {
+// How many steps the last run accepted. A run takes `size` of the samples, from 0 and from `other` in turn, and goes on with the drive that the
+// one before it left.
+fn runs(
+    d: Drive,
+    samples: &[i32],
+    out: &mut [i32],
+    times: usize,
+    size: usize,
+    other: usize,
+) -> usize
+    requires { ⌜ other + size ≤ length (now samples) ⌝ }
+{
     let mut last = d;
     let mut accepted: usize = 0;
+    let mut start: usize = 0;
     let mut i: usize = 0;
     while i < times {
-        let r = rows::run(last, samples, out);
+        let r = rows::run(last, &samples[start..start + size], out);
         last = r.drive;
         accepted = r.accepted;
+        start = other - start;
         i += 1;
     }
     accepted
+}
+
+fn samples_a_run(first: u8) -> usize
+    ensures { λ r. ⌜ r ≤ 96 ⌝ }
+{
+    if first == b'e' { 48 } else { 96 }
 }
 
 fn show(n: u64) {
@@ -141,11 +162,8 @@ fn main() {
     let times = got.size;
     let samples = SAMPLES;
     let mut out = [0i32; 128];
-    let accepted = if bytes[0] == b'e' {
-        runs(d, &samples[..0], &mut out, times)
-    } else {
-        runs(d, &samples, &mut out, times)
-    };
+    let size = samples_a_run(bytes[0]);
+    let accepted = runs(d, &samples, &mut out, times, size, 96 - size);
     show(accepted as u64);
     show(above(out[124]));
     show(above(out[125]));

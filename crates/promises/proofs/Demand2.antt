@@ -2,18 +2,19 @@
 -- Assumes nothing.
 use mathlib.Core.Path.{_≡_, refl, sym, _∙_, ap}
 use mathlib.Core.List.{List, []}
-use Prim.Native.Nat.{ℕ, zero, suc, _+_}
+use Prim.Native.Nat.{ℕ, zero, suc, _+_, _%_}
 use native.Mathlib.Omega.{arith}
 use borrow.Author.Tests.{le-leb}
 use lib.IntN.{ℤ}
 use lib.ListN.{length}
 use Rattle.drive_record.specs.declared.Drive.{Drive}
 use Rattle.drive_record.proofs.Ranges.{not-broken}
-use Rattle.sine.proofs.Rule.{sine-entry, cosine-entry}
+use Rattle.sine.specs.Sine.{indexOf, entriesFrom, keptTable}
+use Rattle.sine.proofs.Rule.{index-below, entry-at, folded-is, place-within, kept-size, kept-natural, sine-entry, cosine-entry}
 use Rattle.drive.specs.Calls.{stepTable, fresh}
 use Rattle.rows.specs.Rows.{isAccepted, isClipped, one, noRows, afterRow, ranOf, writtenOf, rowsIn, rowsFit}
 use Rattle.promises.specs.Histories.{afterCalls, rowAt, countOf}
-use Rattle.promises.specs.Demand2.{StepByTheRules, SineByTheLadder, RunByRows, RunAccepted}
+use Rattle.promises.specs.Demand2.{StepByTheRules, SineByTheLadder, AllFromTheKept, SineByTheFolds, RunByRows, RunAccepted}
 use Rattle.promises.specs.Demand2.{RunOfNone, StaysUnbroken, NeverBroken, SettingsStay, SettingsAsAccepted}
 use Rattle.promises.proofs.Demand1.{step-table, passed, run-table}
 use Rattle.promises.proofs.Keeping.{all-sound, reached-sound, calls-settings}
@@ -25,6 +26,22 @@ step-by-the-rules d ia ib count e = step-table d ia ib count .then (length (step
 -- ════ an accepted run
 pub sine-by-the-ladder : SineByTheLadder
 sine-by-the-ladder angle h = record { sine = sine-entry angle h; cosine = cosine-entry angle h }
+
+pub all-from-the-kept : AllFromTheKept
+unfolding keptTable entriesFrom
+all-from-the-kept = record {
+  count = refl;
+  not-negative = kept-natural;
+  size = kept-size;
+  place = λ k. place-within (k % 256) (omega arith);
+  entry = λ k. folded-is (k % 256) (omega arith) ∙ sym (entry-at (k % 256) (omega arith));
+}
+
+pub sine-by-the-folds : SineByTheFolds
+sine-by-the-folds angle h = record {
+  sine = sine-entry angle h ∙ sym (folded-is (indexOf angle) (index-below angle h));
+  cosine = cosine-entry angle h ∙ sym (folded-is ((indexOf angle + 64) % 256) (omega arith));
+}
 
 pub run-by-rows : RunByRows
 unfolding ranOf noRows afterRow rowAt writtenOf

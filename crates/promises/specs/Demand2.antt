@@ -2,10 +2,10 @@
 use mathlib.Core.Path.{_≡_}
 use mathlib.Core.Bool.{true, false}
 use mathlib.Core.List.{List, [], _++_}
-use Prim.Native.Nat.{ℕ, suc, _+_, _*_, _%_}
-use lib.IntN.{ℤ, pos}
-use lib.ListN.{length, drop}
-use Rattle.sine.specs.Sine.{Angle, indexOf, sineEntry, sineAt, cosineAt}
+use Prim.Native.Nat.{ℕ, suc, _+_, _*_, _%_, _≤_}
+use lib.IntN.{ℤ, pos, natAbs}
+use lib.ListN.{length, drop, getD}
+use Rattle.sine.specs.Sine.{Angle, indexOf, sineEntry, sineTable, sineAt, cosineAt, keptTable, placeOf, foldedIn}
 use Rattle.drive_record.specs.declared.Drive.{Drive}
 use Rattle.drive_record.specs.Record.{broken}
 use Rattle.stages.specs.Step.{advanced}
@@ -24,6 +24,22 @@ pub record AtItsIndex (angle : ℤ) : Type 0 where
 
 abbrev pub SineByTheLadder : Type 0
 SineByTheLadder = (angle : ℤ) → Angle angle → AtItsIndex angle
+
+-- entries 0 to 64 are enough: each entry of the table, counted round and round, is read from them by the folds
+pub record AllFromTheKept : Type 0 where
+  pub count : length keptTable ≡ 65
+  pub not-negative : (i : ℕ) → getD keptTable i (pos 0) ≡ pos (natAbs (getD keptTable i (pos 0)))
+  pub size : (i : ℕ) → natAbs (getD keptTable i (pos 0)) ≤ 4096
+  pub place : (k : ℕ) → placeOf (k % 256) ≤ 64
+  pub entry : (k : ℕ) → foldedIn keptTable (k % 256) ≡ getD sineTable (k % 256) (pos 0)
+
+-- and so are the sine and the cosine of every angle
+pub record FoldedAt (angle : ℤ) : Type 0 where
+  pub sine : sineAt angle ≡ foldedIn keptTable (indexOf angle)
+  pub cosine : cosineAt angle ≡ foldedIn keptTable ((indexOf angle + 64) % 256)
+
+abbrev pub SineByTheFolds : Type 0
+SineByTheFolds = (angle : ℤ) → Angle angle → FoldedAt angle
 
 -- in a run each row is one step, in order; its three compares and its number are written; it goes on after a trip
 pub record RowByRow (d : Drive) (samples : List ℤ) : Type 0 where

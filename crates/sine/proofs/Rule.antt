@@ -1,10 +1,10 @@
--- The table's rule, proved over the table as one. A list of numbers that passes one test against the ladder, which computes at a list that
--- is written out, is the table; each entry of the table is the ladder's; and sine and cosine lie within ±4096, by one more such test.
+-- The table's rule, proved over the table as one. Each of the 256 entries is read from entries 0 to 64 by the folds: one test over all of
+-- them against the ladder, which the checker computes, carried to each index by a lemma. Sine and cosine lie within ±4096, by one more.
 -- Assumes nothing.
 use mathlib.Core.Path.{_≡_, ap, _∙_, subst}
 use mathlib.Core.List.{List, [], _∷_}
-use mathlib.Core.Bool.{Bool, true, false, _&&_}
-use Prim.Native.Nat.{ℕ, zero, suc, _+_, _%_, _≤_, _<_}
+use mathlib.Core.Bool.{Bool, true, false, _&&_, cond}
+use Prim.Native.Nat.{ℕ, zero, suc, _+_, _-_, _%_, _≤_, _<_}
 use native.Mathlib.Nat.{le-of-suc-le-suc, not-suc-le-zero}
 use native.Mathlib.Omega.{arith}
 use lib.Dec.{T, eqb, eqb→eq, leb, leb→le}
@@ -14,7 +14,7 @@ use Rattle.fixed.specs.Fixed.{down}
 use Rattle.fixed.proofs.Choice.{by-order}
 use Rattle.fixed.proofs.Parts.{order}
 use Rattle.sine.specs.Sine.{sineEntry, half, rising, turnedBy, turn, cos1, cos2, sin1, halved}
-use Rattle.sine.specs.Sine.{root, rootFrom, entriesFrom, sineTable, keptTable, placeOf, foldedIn, Angle, indexOf, sineAt, cosineAt}
+use Rattle.sine.specs.Sine.{root, rootFrom, entriesFrom, sineTable, keptTable, placeOf, signedAt, foldedIn, Angle, indexOf, sineAt, cosineAt}
 
 and-left : (a b : Bool) → T (a && b) → T a
 and-left true b t = tt
@@ -65,7 +65,7 @@ abbrev folded : ℕ → Bool
 folded k = eqZ (foldedIn keptTable k) (sineEntry k)
 
 all-folded : T (below folded 256)
-unfolding foldedIn placeOf keptTable entriesFrom sineEntry half rising turnedBy turn cos1 cos2 sin1 halved root rootFrom down
+unfolding foldedIn signedAt placeOf keptTable entriesFrom sineEntry half rising turnedBy turn cos1 cos2 sin1 halved root rootFrom down
 all-folded = tt
 
 pub folded-is : (k : ℕ) → k < 256 → foldedIn keptTable k ≡ sineEntry k
@@ -81,32 +81,64 @@ all-among-kept = tt
 pub place-within : (k : ℕ) → k < 256 → placeOf k ≤ 64
 place-within k h = leb→le (placeOf k) 64 (below-at among-kept 256 k all-among-kept h)
 
--- ════ within ±4096
+-- both halves are folded alike
+abbrev alike : ℕ → Bool
+alike k = eqb (cond (leb (k % 128) 64) (k % 128) (128 - k % 128)) (placeOf k)
+
+all-alike : T (below alike 256)
+unfolding placeOf
+all-alike = tt
+
+pub place-in-half : (k : ℕ) → k < 256 → cond (leb (k % 128) 64) (k % 128) (128 - k % 128) ≡ placeOf k
+place-in-half k h = eqb→eq (cond (leb (k % 128) 64) (k % 128) (128 - k % 128)) (placeOf k) (below-at alike 256 k all-alike h)
+
+-- an entry a quarter on stands as far from the end as this one from the beginning
+abbrev opposite : ℕ → Bool
+opposite k = eqb (placeOf ((k + 64) % 256)) (64 - placeOf k)
+
+all-opposite : T (below opposite 256)
+unfolding placeOf
+all-opposite = tt
+
+pub place-ahead : (k : ℕ) → k < 256 → placeOf ((k + 64) % 256) ≡ 64 - placeOf k
+place-ahead k h = eqb→eq (placeOf ((k + 64) % 256)) (64 - placeOf k) (below-at opposite 256 k all-opposite h)
+
+-- ════ within ±4096, and what is kept not negative
+abbrev all : (ℤ → Bool) → List ℤ → Bool
+all f [] = true
+all f (z ∷ zs) = f z && all f zs
+
+all-at : (f : ℤ → Bool) (zs : List ℤ) (k : ℕ) → T (f (pos 0)) → T (all f zs) → T (f (getD zs k (pos 0)))
+all-at f [] k none t = none
+all-at f (z ∷ zs) zero none t = and-left (f z) (all f zs) t
+all-at f (z ∷ zs) (suc k) none t = all-at f zs k none (and-right (f z) (all f zs) t)
+
 abbrev inside : ℤ → Bool
 inside z = leb (natAbs z) 4096
 
-abbrev all : List ℤ → Bool
-all [] = true
-all (z ∷ zs) = inside z && all zs
-
-all-at : (zs : List ℤ) (k : ℕ) → T (all zs) → T (inside (getD zs k (pos 0)))
-all-at [] k t = tt
-all-at (z ∷ zs) zero t = and-left (inside z) (all zs) t
-all-at (z ∷ zs) (suc k) t = all-at zs k (and-right (inside z) (all zs) t)
-
-table-inside : T (all sineTable)
+table-inside : T (all inside sineTable)
 unfolding sineTable entriesFrom sineEntry half rising turnedBy turn cos1 cos2 sin1 halved root rootFrom down
 table-inside = tt
 
-kept-inside : T (all keptTable)
+entry-size : (k : ℕ) → natAbs (getD sineTable k (pos 0)) ≤ 4096
+entry-size k = leb→le (natAbs (getD sineTable k (pos 0))) 4096 (all-at inside sineTable k tt table-inside)
+
+abbrev natural : ℤ → Bool
+natural z = eqZ z (pos (natAbs z))
+
+kept-inside : T (all inside keptTable)
 unfolding keptTable entriesFrom sineEntry half rising turnedBy turn cos1 cos2 sin1 halved root rootFrom down
 kept-inside = tt
 
-entry-size : (k : ℕ) → natAbs (getD sineTable k (pos 0)) ≤ 4096
-entry-size k = leb→le (natAbs (getD sineTable k (pos 0))) 4096 (all-at sineTable k table-inside)
+kept-all-natural : T (all natural keptTable)
+unfolding keptTable entriesFrom sineEntry half rising turnedBy turn cos1 cos2 sin1 halved root rootFrom down
+kept-all-natural = tt
 
 pub kept-size : (i : ℕ) → natAbs (getD keptTable i (pos 0)) ≤ 4096
-kept-size i = leb→le (natAbs (getD keptTable i (pos 0))) 4096 (all-at keptTable i kept-inside)
+kept-size i = leb→le (natAbs (getD keptTable i (pos 0))) 4096 (all-at inside keptTable i tt kept-inside)
+
+pub kept-natural : (i : ℕ) → getD keptTable i (pos 0) ≡ pos (natAbs (getD keptTable i (pos 0)))
+kept-natural i = eqZ→eq (getD keptTable i (pos 0)) (pos (natAbs (getD keptTable i (pos 0)))) (all-at natural keptTable i tt kept-all-natural)
 
 -- ════ what stands above this crate needs of the two readings
 pub index-below : (a : ℤ) → Angle a → indexOf a < 256

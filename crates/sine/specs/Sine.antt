@@ -3,7 +3,7 @@
 use Prim.Native.Nat.{ℕ, zero, suc, _+_, _*_, _-_, _/_, _%_, _^_}
 use mathlib.Core.Bool.{cond}
 use mathlib.Core.List.{List, [], _∷_}
-use lib.Dec.{leb}
+use lib.Dec.{leb, ltb}
 use lib.IntN.{ℤ, pos, negℤ, natAbs, _+ℤ_, _-ℤ_, _*ℤ_}
 use lib.ListN.{getD}
 use lib.Signed.{_≤ℤ_}
@@ -95,8 +95,12 @@ keptTable = entriesFrom 0 65
 
 -- where among them entry k stands, k from 0 to 255: there and back in each half
 unfoldable pub placeOf : ℕ → ℕ
-placeOf k = cond (leb k 64) k (cond (leb k 128) (128 - k) (cond (leb k 192) (k - 128) (256 - k)))
+placeOf k = cond (leb k 64) k (cond (ltb k 128) (128 - k) (cond (leb k 192) (k - 128) (256 - k)))
 
--- entry k, read from entries 0 to 64: above 128 the sign is turned
+-- from 128 on the sign of what stands there is turned
+unfoldable pub signedAt : ℕ → ℤ → ℤ
+signedAt k z = cond (ltb k 128) z (negℤ z)
+
+-- entry k, read from entries 0 to 64
 unfoldable pub foldedIn : List ℤ → ℕ → ℤ
-foldedIn t k = cond (leb k 128) (getD t (placeOf k) (pos 0)) (negℤ (getD t (placeOf k) (pos 0)))
+foldedIn t k = signedAt k (getD t (placeOf k) (pos 0))

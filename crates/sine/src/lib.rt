@@ -1,9 +1,9 @@
 // Sine and cosine of an angle, from a quarter of the table.
 ghost use mathlib.Core.Path.{_≡_};
-ghost use Prim.Native.Nat.{_%_, _≤_, _<_};
-ghost use lib.IntN.{pos};
+ghost use Prim.Native.Nat.{_+_, _%_, _≤_, _<_};
+ghost use lib.IntN.{pos, natAbs};
 ghost use lib.ListN.{getD};
-ghost use Rattle.sine.specs.Sine.{sineEntry, Angle, indexOf, sineAt, cosineAt, keptTable, placeOf};
+ghost use Rattle.sine.specs.Sine.{sineEntry, Angle, indexOf, sineAt, cosineAt, keptTable, placeOf, signedAt};
 
 // Entries 0 to 64: 4096·sin(2πi/256), to the nearest whole number. They stand in a match, of which the compiler makes a table that is
 // read where it lies; a constant array would be written to the stack by each call that names it.
@@ -80,30 +80,37 @@ fn quarter(i: usize) -> i16
     }
 }
 
-// Where entry k stands among entries 0 to 64.
+// Where entry k of the table stands among entries 0 to 64: there and back in each half. In this form it takes no branch.
 fn place(k: usize) -> usize
     requires { ⌜ k < 256 ⌝ }
     ensures { λ r. ⌜ r ≡ placeOf k ⌝ }
 {
-    if k <= 64 {
-        return k;
-    }
-    if k <= 128 {
-        return 128 - k;
-    }
-    if k <= 192 {
-        return k - 128;
-    }
-    256 - k
+    let h = k % 128;
+    if h <= 64 { h } else { 128 - h }
 }
 
-// Entry i of the table, i counted round and round. The sign is turned in 16 bits, so that the numbers above are kept in 16.
+// With the sign of entry k. It is turned in 16 bits, so that the compiler keeps the numbers above in 16.
+fn signed(k: usize, size: i16) -> i16
+    requires { ⌜ natAbs size ≤ 4096 ⌝ }
+    ensures { λ r. ⌜ r ≡ signedAt k size ⌝ }
+{
+    if k < 128 { size } else { -size }
+}
+
+// Entry i of the table, i counted round and round.
 fn entry(i: usize) -> i16
     ensures { λ r. ⌜ r ≡ sineEntry (i % 256) ⌝ }
 {
     let k = i % 256;
-    let size = quarter(place(k));
-    if k <= 128 { size } else { -size }
+    signed(k, quarter(place(k)))
+}
+
+// The entry a quarter of a turn on. It stands as far from the end as entry i from the beginning, so that one place serves both.
+fn entry_ahead(i: usize) -> i16
+    ensures { λ r. ⌜ r ≡ sineEntry ((i + 64) % 256) ⌝ }
+{
+    let k = i % 256;
+    signed((k + 64) % 256, quarter(64 - place(k)))
 }
 
 // Which entry an angle reads.
@@ -127,5 +134,5 @@ pub fn cosine(angle: i32) -> i32
     requires { ⌜ Angle angle ⌝ }
     ensures { λ r. ⌜ r ≡ cosineAt angle ⌝ }
 {
-    entry(index(angle) + 64) as i32
+    entry_ahead(index(angle)) as i32
 }
