@@ -24,7 +24,7 @@ and-right : (a b : Bool) → T (a && b) → T b
 and-right true b t = t
 and-right false b t = absurd t
 
--- ════ two lists of numbers are the same
+-- ════ two numbers are the same, as a test
 abbrev eqZ : ℤ → ℤ → Bool
 eqZ (pos a) (pos b) = eqb a b
 eqZ (negsuc a) (negsuc b) = eqb a b

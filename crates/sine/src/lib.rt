@@ -6,7 +6,7 @@ ghost use lib.ListN.{getD};
 ghost use Rattle.sine.specs.Sine.{sineEntry, Angle, indexOf, sineAt, cosineAt, keptTable, placeOf, signedAt};
 
 // Entries 0 to 64: 4096·sin(2πi/256), to the nearest whole number. They stand in a match, of which the compiler makes a table that is
-// read where it lies; a constant array would be written to the stack by each call that names it.
+// read where it lies; a constant array would be written to the stack by each call that names it. The last arm is entry 64.
 fn quarter(i: usize) -> i16
     requires { ⌜ i ≤ 64 ⌝ }
     ensures { λ r. ⌜ r ≡ getD keptTable i (pos 0) ⌝ }

@@ -3,13 +3,13 @@
 use mathlib.Core.Path.{_≡_, ap, _∙_}
 use Prim.Native.Nat.{ℕ, _%_}
 use native.Mathlib.Omega.{arith}
-use lib.IntN.{ℤ, pos}
+use lib.IntN.{pos}
 use lib.ListN.{getD}
 use mir.Syntax.{w16}
 use mir.Val.{toZ, ofZ}
 use borrow.Author.Needs.{needs}
 use Rattle.fixed.proofs.Reading.{Reads, result, stored, answer, bound}
-use Rattle.sine.specs.Sine.{sineEntry, keptTable, placeOf, signedAt, foldedIn}
+use Rattle.sine.specs.Sine.{keptTable, placeOf, signedAt, foldedIn}
 use Rattle.sine.proofs.Rule.{folded-is, place-within, kept-size}
 use Rattle.sine.proofs.entry.Statement.{statement}
 use Rattle.sine.proofs.entry.Tie as tie

@@ -1,6 +1,6 @@
 -- `sine::signed` meets its contract.
 -- Assumes nothing.
-use mathlib.Core.Path.{_≡_, ap, sym, _∙_}
+use mathlib.Core.Path.{ap, sym, _∙_}
 use mathlib.Core.Bool.{Bool, cond}
 use lib.IntN.{negℤ}
 use borrow.Author.Tests.{lt-ltb, le-ltb}
