@@ -187,6 +187,11 @@ REGULATORS = [
 
 SINE = [step(speed=1000, fine=4096000, angle=angle, sample=(1000, -300, 0)) for angle in (0, 255, 256, 16384, 65535)]
 
+# Where the table is folded, at 64, 128 and 192: the last angle of the index before, the first of that index, the first of the next; and the first of index 255.
+# Here d is the cosine and q is minus the sine, and the answer shows both as they are: fine is 4096 times the cosine, the q integral is the sine.
+SINE += [step(current_Kcor=4096, current_Ki=4096, Kr=4096, angle=angle, sample=(4096, -2048, 0))
+         for angle in (16383, 16384, 16640, 32767, 32768, 33024, 49151, 49152, 49408, 65280)]
+
 # Backwards over 0.
 ANGLE = [step(speed=-25)]
 

@@ -255,11 +255,11 @@ def clarke(ia, ib):
 # 4. Sine and cosine
 
 def sine(angle):
-    return SINE_TABLE[angle // 256]
+    return entry(angle // 256)
 
 
 def cosine(angle):
-    return SINE_TABLE[(angle // 256 + 64) % 256]
+    return entry(angle // 256 + 64)
 
 
 # 5. Park
@@ -330,7 +330,8 @@ def index_1(scale):
     return cos, math.isqrt(scale * (scale - cos_of_double) // 2)
 
 
-def sine_table():
+def kept_entries():
+    """Entries 0 to 64, each by one turn more than the one before."""
     scale = 2 ** 40
     c, s = index_1(scale)
     cos, sin = scale, 0
@@ -338,11 +339,43 @@ def sine_table():
     for _ in range(65):
         quarter.append((4096 * sin + scale // 2) // scale)
         cos, sin = (cos * c - sin * s) // scale, (sin * c + cos * s) // scale
-    half = quarter + [quarter[128 - k] for k in range(65, 128)]
-    return half + [-entry for entry in half]
+    return quarter
 
 
-SINE_TABLE = sine_table()
+KEPT_ENTRIES = kept_entries()
+
+
+def kept_entry(place):
+    """What stands at a place, of which there are 0 to 64."""
+    return KEPT_ENTRIES[place]
+
+
+def place_of_entry(k):
+    """Where entry k, 0 to 255, stands among those that are kept."""
+    if k <= 64:
+        return k
+    if k <= 127:
+        return 128 - k
+    if k <= 192:
+        return k - 128
+    return 256 - k
+
+
+def is_sign_turned(k):
+    """Whether entry k has the other sign than what stands at its place."""
+    return k >= 128
+
+
+def index_of_one_turn(index):
+    """An index past 255 as one of 0 to 255."""
+    return index % 256
+
+
+def entry(index):
+    """Entry k of the sine table, for any index k."""
+    k = index_of_one_turn(index)
+    kept = kept_entry(place_of_entry(k))
+    return -kept if is_sign_turned(k) else kept
 
 
 # Modulation

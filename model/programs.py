@@ -18,8 +18,9 @@ def text_of(lines):
 # crates/test_entries
 
 def entries():
-    """The sine at seven angles, one a line."""
-    return text_of(str(drive.sine(angle)) for angle in (0, 256, 4096, 8192, 16128, 16384, 255))
+    """The sine at seven angles, one a line; then for every index, 0 to 255, a line with the sine and the cosine of its first angle."""
+    sines = [str(drive.sine(angle)) for angle in (0, 256, 4096, 8192, 16128, 16384, 255)]
+    return text_of(sines + ['%d %d' % (drive.sine(256 * k), drive.cosine(256 * k)) for k in range(256)])
 
 
 # crates/test_runs

@@ -11,6 +11,8 @@ import sheet
 
 right_tick = drive.tick
 right_clip = drive.clip
+right_place_of_entry = drive.place_of_entry
+right_kept_entry = drive.kept_entry
 right_refusal = drive.refusal
 right_clear = drive.clear
 right_stored = moments.stored
@@ -189,7 +191,59 @@ def clip_to_the_nearest(t1, t2, period):
 
 
 def sine_of_the_nearest_entry(angle):
-    return drive.SINE_TABLE[(angle + 128) // 256 % 256]
+    return drive.entry((angle + 128) // 256)
+
+
+# Where a wrong place is none of 0 to 64, the nearest of these is read.
+
+def place_off_by_one_past_64(k):
+    return 127 - k if 65 <= k <= 127 else right_place_of_entry(k)
+
+
+def place_off_by_one_from_128_on(k):
+    return drive.held(k - 127, 0, 64) if 128 <= k <= 192 else right_place_of_entry(k)
+
+
+def place_off_by_one_past_192(k):
+    return 255 - k if k >= 193 else right_place_of_entry(k)
+
+
+# Entries 64, 128 and 192 have the same place by both of the formulas that meet there, and may go by either. Those behind them may not: by the formula of the
+# entries before, 65, 129 and 193 would stand at places 65, -1 and 65.
+
+def place_with_65_not_folded(k):
+    return 64 if k == 65 else right_place_of_entry(k)
+
+
+def place_with_129_not_folded(k):
+    return 0 if k == 129 else right_place_of_entry(k)
+
+
+def place_with_193_not_folded(k):
+    return 64 if k == 193 else right_place_of_entry(k)
+
+
+def sign_never_turned(_):
+    return False
+
+
+# From 129 on would be right, since entry 128 is 0.
+
+def sign_turned_from_127_on(k):
+    return k >= 127
+
+
+def sign_turned_from_130_on(k):
+    return k >= 130
+
+
+def index_held_to_255(index):
+    """So the cosine in the last quarter of a turn is entry 255 throughout."""
+    return min(index, 255)
+
+
+def kept_entry_with_a_lower_peak(place):
+    return 4095 if place == 64 else right_kept_entry(place)
 
 
 def refusal_without_the_gain_law(settings):
@@ -234,6 +288,17 @@ WRONG_RULES = [
     ('clipping rounded up', 'clip', clip_rounded_up),
     ('clipping to the nearest', 'clip', clip_to_the_nearest),
     ('the sine of the nearest entry', 'sine', sine_of_the_nearest_entry),
+    ('a place one less for the entries past 64', 'place_of_entry', place_off_by_one_past_64),
+    ('a place one more for the entries from 128 on', 'place_of_entry', place_off_by_one_from_128_on),
+    ('a place one less for the entries past 192', 'place_of_entry', place_off_by_one_past_192),
+    ('entry 65 not folded at 64', 'place_of_entry', place_with_65_not_folded),
+    ('entry 129 not folded at 128', 'place_of_entry', place_with_129_not_folded),
+    ('entry 193 not folded at 192', 'place_of_entry', place_with_193_not_folded),
+    ('the sign of no entry turned', 'is_sign_turned', sign_never_turned),
+    ('the sign turned from entry 127 on', 'is_sign_turned', sign_turned_from_127_on),
+    ('the sign turned from entry 130 on', 'is_sign_turned', sign_turned_from_130_on),
+    ('an index past 255 not taken modulo 256', 'index_of_one_turn', index_held_to_255),
+    ('a peak of 4095', 'kept_entry', kept_entry_with_a_lower_peak),
     ('the gain law not looked at', 'refusal', refusal_without_the_gain_law),
     ('a clear that keeps the target', 'clear', clear_keeps_the_target),
 ]
