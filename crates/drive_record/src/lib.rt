@@ -65,7 +65,8 @@ pub fn words_ok(d: Drive) -> bool
         & integrals_ok(d.settings, d.integrals)
 }
 
-// Whether a record is one that a call may work on: number 14 is given where it is not. The words are looked at once the settings have passed.
+// Whether a record is one that a call may work on: number 14 is given where it is not. The words are looked at once the settings have passed, so
+// that fewer numbers are at hand at a time.
 pub fn sound(d: Drive) -> bool
     ensures { λ r. ⌜ r ≡ soundOf d ⌝ }
 {

@@ -1,5 +1,6 @@
 -- The table's rule, proved over the table as one. Each of the 256 entries is read from entries 0 to 64 by the folds: one test over all of
--- them against the ladder, which the checker computes, carried to each index by a lemma. Sine and cosine lie within ±4096, by one more.
+-- them against the ladder, which the checker computes, carried to each index by a lemma. The facts on places go likewise, and that sine and
+-- cosine lie within ±4096.
 -- Assumes nothing.
 use mathlib.Core.Path.{_≡_, ap, _∙_, subst}
 use mathlib.Core.List.{List, [], _∷_}
@@ -82,15 +83,18 @@ pub place-within : (k : ℕ) → k < 256 → placeOf k ≤ 64
 place-within k h = leb→le (placeOf k) 64 (below-at among-kept 256 k all-among-kept h)
 
 -- both halves are folded alike
+abbrev pub placeInHalf : ℕ → ℕ
+placeInHalf h = cond (leb h 64) h (128 - h)
+
 abbrev alike : ℕ → Bool
-alike k = eqb (cond (leb (k % 128) 64) (k % 128) (128 - k % 128)) (placeOf k)
+alike k = eqb (placeInHalf (k % 128)) (placeOf k)
 
 all-alike : T (below alike 256)
 unfolding placeOf
 all-alike = tt
 
-pub place-in-half : (k : ℕ) → k < 256 → cond (leb (k % 128) 64) (k % 128) (128 - k % 128) ≡ placeOf k
-place-in-half k h = eqb→eq (cond (leb (k % 128) 64) (k % 128) (128 - k % 128)) (placeOf k) (below-at alike 256 k all-alike h)
+pub place-in-half : (k : ℕ) → k < 256 → placeInHalf (k % 128) ≡ placeOf k
+place-in-half k h = eqb→eq (placeInHalf (k % 128)) (placeOf k) (below-at alike 256 k all-alike h)
 
 -- an entry a quarter on stands as far from the end as this one from the beginning
 abbrev opposite : ℕ → Bool
@@ -103,7 +107,7 @@ all-opposite = tt
 pub place-ahead : (k : ℕ) → k < 256 → placeOf ((k + 64) % 256) ≡ 64 - placeOf k
 place-ahead k h = eqb→eq (placeOf ((k + 64) % 256)) (64 - placeOf k) (below-at opposite 256 k all-opposite h)
 
--- ════ within ±4096, and what is kept not negative
+-- ════ within ±4096
 abbrev all : (ℤ → Bool) → List ℤ → Bool
 all f [] = true
 all f (z ∷ zs) = f z && all f zs
@@ -123,22 +127,22 @@ table-inside = tt
 entry-size : (k : ℕ) → natAbs (getD sineTable k (pos 0)) ≤ 4096
 entry-size k = leb→le (natAbs (getD sineTable k (pos 0))) 4096 (all-at inside sineTable k tt table-inside)
 
-abbrev natural : ℤ → Bool
-natural z = eqZ z (pos (natAbs z))
+-- what is kept is besides not negative
+abbrev kept : ℤ → Bool
+kept z = inside z && eqZ z (pos (natAbs z))
 
-kept-inside : T (all inside keptTable)
+all-kept : T (all kept keptTable)
 unfolding keptTable entriesFrom sineEntry half rising turnedBy turn cos1 cos2 sin1 halved root rootFrom down
-kept-inside = tt
+all-kept = tt
 
-kept-all-natural : T (all natural keptTable)
-unfolding keptTable entriesFrom sineEntry half rising turnedBy turn cos1 cos2 sin1 halved root rootFrom down
-kept-all-natural = tt
+kept-at : (i : ℕ) → T (kept (getD keptTable i (pos 0)))
+kept-at i = all-at kept keptTable i tt all-kept
 
 pub kept-size : (i : ℕ) → natAbs (getD keptTable i (pos 0)) ≤ 4096
-kept-size i = leb→le (natAbs (getD keptTable i (pos 0))) 4096 (all-at inside keptTable i tt kept-inside)
+kept-size i = let z = getD keptTable i (pos 0) in leb→le (natAbs z) 4096 (and-left (inside z) (eqZ z (pos (natAbs z))) (kept-at i))
 
 pub kept-natural : (i : ℕ) → getD keptTable i (pos 0) ≡ pos (natAbs (getD keptTable i (pos 0)))
-kept-natural i = eqZ→eq (getD keptTable i (pos 0)) (pos (natAbs (getD keptTable i (pos 0)))) (all-at natural keptTable i tt kept-all-natural)
+kept-natural i = let z = getD keptTable i (pos 0) in eqZ→eq z (pos (natAbs z)) (and-right (inside z) (eqZ z (pos (natAbs z))) (kept-at i))
 
 -- ════ what stands above this crate needs of the two readings
 pub index-below : (a : ℤ) → Angle a → indexOf a < 256

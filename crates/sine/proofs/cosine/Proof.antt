@@ -17,7 +17,12 @@ returns : tie.Need-returns
 returns c =
     let k = c .before in
     let a = k .before .args .angle in
-    stored w32 (answer w16 (c .entry-ahead .ok)) tt .is ∙ c .entry-ahead .ensures ∙ ap (λ (i : ℕ). sineEntry ((i + 64) % 256)) (i-is k) ∙ sym (cosine-entry a (k .before .pre))
+    stored w32 (answer w16 (c .entry-ahead .ok)) tt .is
+    ∙ c .entry-ahead .ensures
+    ∙ ap (λ (i : ℕ). sineEntry ((i + 64) % 256)) (i-is k)
+    ∙ sym (cosine-entry a (k .before .pre))
 
 pub cosine-spec : {M : Type 1} → statement M
-cosine-spec = tie.close (tie.spec (λ c κs. search needs) (λ c κs. search needs) (λ c. fits {v = c .entry-ahead .result} (answer w16 (c .entry-ahead .ok)) tt) returns)
+cosine-spec =
+    tie.close
+    (tie.spec (λ c κs. search needs) (λ c κs. search needs) (λ c. fits {v = c .entry-ahead .result} (answer w16 (c .entry-ahead .ok)) tt) returns)
