@@ -23,14 +23,14 @@ use settings::{Checked, Settings};
 use stages::Stepped;
 
 // What settings answer: a drive or a number.
-#[derive(Drop)]
+#[derive(Clone, Copy)]
 pub enum Made {
     Ready(Drive),
     Refused(i32),
 }
 
 // What a target and a clear answer.
-#[derive(Drop)]
+#[derive(Clone, Copy)]
 pub struct Answered {
     pub drive: Drive,
     pub number: i32,

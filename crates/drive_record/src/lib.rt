@@ -13,7 +13,7 @@ pub const TARGET_BACK: i32 = -TARGET_END;
 
 // The target, and the three references: speed, torque, flux.
 #[repr(C)]
-#[derive(Drop)]
+#[derive(Clone, Copy)]
 pub struct Command {
     pub target: i32,
     pub reference: i32,
@@ -23,7 +23,7 @@ pub struct Command {
 
 // The integrals of the three regulators.
 #[repr(C)]
-#[derive(Drop)]
+#[derive(Clone, Copy)]
 pub struct Integrals {
     pub speed: i32,
     pub d: i32,
@@ -32,7 +32,7 @@ pub struct Integrals {
 
 // All words are 32 bits wide, so that a word out of its range can be told and refused.
 #[repr(C)]
-#[derive(Drop)]
+#[derive(Clone, Copy)]
 pub struct Drive {
     pub settings: Settings,
     pub shaft: Shaft,

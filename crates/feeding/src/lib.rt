@@ -6,7 +6,7 @@ ghost use Rattle.feeding.specs.Feeding.{part_of};
 use text::Line;
 
 // Bytes went to a line: the line after them, the place behind them, and whether they ended it.
-#[derive(Drop)]
+#[derive(Clone, Copy)]
 pub struct LineFed {
     pub line: Line,
     pub place: usize,

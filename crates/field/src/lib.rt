@@ -18,7 +18,7 @@ ghost use Rattle.field.specs.Field.{
 
 // The flux is kept with twelve bits more than it is read with: small rises would else round away, and it would rest below d.
 #[repr(C)]
-#[derive(Drop)]
+#[derive(Clone, Copy)]
 pub struct Field {
     pub fine: i32,
     pub angle: i32,

@@ -4,14 +4,14 @@ ghost use Rattle.fixed.specs.Fixed.{down as down_of};
 ghost use Rattle.frames.specs.Frames.{clarke as clarkeOf, park as parkOf, inverse_park, FrameSized, sample_end};
 
 // In the stator's frame, which stands still.
-#[derive(Drop)]
+#[derive(Clone, Copy)]
 pub struct Stator {
     pub alpha: i32,
     pub beta: i32,
 }
 
 // In the rotor flux's frame, which turns.
-#[derive(Drop)]
+#[derive(Clone, Copy)]
 pub struct Rotor {
     pub d: i32,
     pub q: i32,

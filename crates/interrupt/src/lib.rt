@@ -14,7 +14,7 @@ use stages::Stepped;
 // What a step answers: the compares of the phases a, b and c, the rules' number, whether the voltage was more than the period
 // holds, and the voltage that was modulated.
 #[repr(C)]
-#[derive(Drop)]
+#[derive(Clone, Copy)]
 pub struct Output {
     pub a: i32,
     pub b: i32,

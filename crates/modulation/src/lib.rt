@@ -23,7 +23,7 @@ ghost use Rattle.modulation.specs.Modulation.{
 };
 
 // The compares of the phases a, b and c, and whether the voltage was more than the period holds.
-#[derive(Drop)]
+#[derive(Clone, Copy)]
 pub struct Pulses {
     pub a: i32,
     pub b: i32,
@@ -32,7 +32,7 @@ pub struct Pulses {
 }
 
 // X, Y and Z.
-#[derive(Drop)]
+#[derive(Clone, Copy)]
 pub struct Entries {
     pub x: i32,
     pub y: i32,
@@ -40,7 +40,7 @@ pub struct Entries {
 }
 
 // A row of the sector table: the entries for t1 and t2, and the place (0, 1, 2) at which each phase goes on.
-#[derive(Drop)]
+#[derive(Clone, Copy)]
 pub struct Sector {
     pub t1: i32,
     pub t2: i32,
@@ -50,7 +50,7 @@ pub struct Sector {
 }
 
 // The times of the two active vectors.
-#[derive(Drop)]
+#[derive(Clone, Copy)]
 pub struct Times {
     pub t1: i32,
     pub t2: i32,

@@ -20,7 +20,7 @@ use drive_record::Drive;
 use stages::Stepped;
 
 // One accepted step: its samples, the speed after it and its compares.
-#[derive(Drop)]
+#[derive(Clone, Copy)]
 pub struct Row {
     pub ia: i32,
     pub ib: i32,
@@ -32,7 +32,7 @@ pub struct Row {
 
 // A ring for each quantity, the place of the next row and the count of real rows.
 #[repr(C)]
-#[derive(Drop)]
+#[derive(Clone, Copy)]
 pub struct Moments {
     pub ia: [i32; 128],
     pub ib: [i32; 128],
@@ -46,7 +46,7 @@ pub struct Moments {
 
 // What is read at an index: 0 and the row, or 19 and zeros.
 #[repr(C)]
-#[derive(Drop)]
+#[derive(Clone, Copy)]
 pub struct Found {
     pub number: i32,
     pub ia: i32,
@@ -58,14 +58,14 @@ pub struct Found {
 }
 
 // What a recorded step answers: the step's answer, and the record after it.
-#[derive(Drop)]
+#[derive(Clone, Copy)]
 pub struct Recorded {
     pub step: Stepped,
     pub moments: Moments,
 }
 
 // What a recorded clear answers.
-#[derive(Drop)]
+#[derive(Clone, Copy)]
 pub struct Emptied {
     pub answer: Answered,
     pub moments: Moments,

@@ -4,7 +4,7 @@ ghost use Rattle.settings.specs.Words.{size, entry_at};
 ghost use Rattle.names.specs.Names.{field_of};
 
 // A word's name with an equals sign, blanks behind it; how many bytes that is without the blanks; whether the word is a gain; its range.
-#[derive(Drop)]
+#[derive(Clone, Copy)]
 pub struct Field {
     pub key: [u8; 6],
     pub size: usize,

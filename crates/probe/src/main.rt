@@ -20,7 +20,7 @@ use text::Line;
 
 // What is kept from one byte to the next: how many calls came, the line at hand, its numbers, and whether a byte of it came; whether a line came
 // that is no call, after which nothing is looked at.
-#[derive(Drop)]
+#[derive(Clone, Copy)]
 pub struct Calls {
     pub before: u64,
     pub line: Line,
@@ -30,7 +30,7 @@ pub struct Calls {
 }
 
 // A chunk is fed: the calls after it, and the place behind what was written.
-#[derive(Drop)]
+#[derive(Clone, Copy)]
 pub struct Passed {
     pub calls: Calls,
     pub place: usize,
@@ -319,7 +319,7 @@ fn ended(s: Calls, out: &mut [u8]) -> usize
 }
 
 // What a turn leaves: the calls; whether the read failed; whether all that was written was sent; whether to go on.
-#[derive(Drop)]
+#[derive(Clone, Copy)]
 pub struct Turned {
     pub calls: Calls,
     pub unread: bool,

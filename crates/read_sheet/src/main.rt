@@ -16,7 +16,7 @@ const ROOM: usize = ENOUGH + CHUNK;
 const ANSWER: usize = 602;
 
 // What was gathered: so many bytes; whether a read failed; whether to go on.
-#[derive(Drop)]
+#[derive(Clone, Copy)]
 pub struct Gathered {
     pub size: usize,
     pub unread: bool,

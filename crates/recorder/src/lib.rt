@@ -14,7 +14,7 @@ use settings::Settings;
 use stages::Stepped;
 
 // What a step answers, and the row of it.
-#[derive(Drop)]
+#[derive(Clone, Copy)]
 pub struct Noted {
     pub step: Stepped,
     pub row: Row,

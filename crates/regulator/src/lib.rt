@@ -2,7 +2,7 @@
 ghost use Rattle.std.specs.Prelude.{◌≡◌};
 ghost use Rattle.regulator.specs.Regulator.{regulated, RegulatorSized};
 
-#[derive(Drop)]
+#[derive(Clone, Copy)]
 pub struct Gains {
     pub kp: i32,
     pub kcor: i32,
@@ -10,7 +10,7 @@ pub struct Gains {
 }
 
 // The output, and the integral after the step.
-#[derive(Drop)]
+#[derive(Clone, Copy)]
 pub struct Regulated {
     pub out: i32,
     pub x: i32,

@@ -15,14 +15,14 @@ ghost use Rattle.ring.specs.Ring.{
 };
 
 // The place of the next row and the real rows, as they are read.
-#[derive(Drop)]
+#[derive(Clone, Copy)]
 pub struct Counts {
     pub place: u32,
     pub rows: u32,
 }
 
 // Where a row goes, and the counts after it.
-#[derive(Drop)]
+#[derive(Clone, Copy)]
 pub struct Spot {
     pub at: usize,
     pub next: i32,
@@ -30,7 +30,7 @@ pub struct Spot {
 }
 
 // Where a row stands: 0 and its place, or 19 where there is no such row.
-#[derive(Drop)]
+#[derive(Clone, Copy)]
 pub struct Place {
     pub number: i32,
     pub at: usize,

@@ -20,7 +20,7 @@ use settings::Checked;
 use stages::Stepped;
 
 // What a run answers: the drive after it, its own number, how many steps were accepted and how many of those were clipped.
-#[derive(Drop)]
+#[derive(Clone, Copy)]
 pub struct Ran {
     pub drive: Drive,
     pub number: i32,

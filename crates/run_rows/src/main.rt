@@ -11,7 +11,7 @@ use settings::Checked;
 use stream::Stream;
 
 // What a turn leaves: the stream; whether the read failed; whether all that was written was sent; whether to go on.
-#[derive(Drop)]
+#[derive(Clone, Copy)]
 pub struct Turned {
     pub stream: Stream,
     pub unread: bool,

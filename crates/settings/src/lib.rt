@@ -25,7 +25,7 @@ pub const WORDS: usize = 15;
 
 // In the order of the motor's sheet: the period, speed gains, current gains, the limits V and Q, the flux model's three, Kn, F, R.
 #[repr(C)]
-#[derive(Drop)]
+#[derive(Clone, Copy)]
 pub struct Settings {
     pub t: i32,
     pub skp: i32,
@@ -147,7 +147,7 @@ pub fn is_accepted(s: Settings) -> bool
 }
 
 // What settings answer: themselves, once all are in range, or the number that refuses them.
-#[derive(Drop)]
+#[derive(Clone, Copy)]
 pub enum Checked {
     Accepted(Settings),
     Refused(i32),

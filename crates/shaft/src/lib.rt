@@ -30,7 +30,7 @@ const BACKWARDS: i32 = -FASTEST;
 
 // What is known of the shaft: the last count and whether there was one, the movements and steps of the window, the speed.
 #[repr(C)]
-#[derive(Drop)]
+#[derive(Clone, Copy)]
 pub struct Shaft {
     pub count: i32,
     pub seen: bool,

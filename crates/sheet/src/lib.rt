@@ -22,14 +22,14 @@ use settings::{Checked, Settings};
 use values::Number;
 
 // What stands in the lines of a text: settings, which need not be accepted, or the first faulty line, counted from 1.
-#[derive(Drop)]
+#[derive(Clone, Copy)]
 pub enum Found {
     Good(Settings),
     Bad(usize),
 }
 
 // What a text is read as: settings, or number 1 to 5, or number 17 with the first faulty line.
-#[derive(Drop)]
+#[derive(Clone, Copy)]
 pub enum Outcome {
     Read(Settings),
     Refused(i32),
@@ -37,7 +37,7 @@ pub enum Outcome {
 }
 
 // What writing a sheet answers: its length, or number 1 to 5, or number 18.
-#[derive(Drop)]
+#[derive(Clone, Copy)]
 pub enum Wrote {
     Length(usize),
     Barred(i32),
@@ -197,7 +197,7 @@ pub fn write(s: Settings, out: &mut [u8]) -> Wrote
 
 // For C: the number, the line that comes with 17, and the settings that come with 0.
 #[repr(C)]
-#[derive(Drop)]
+#[derive(Clone, Copy)]
 pub struct Reading {
     pub number: i32,
     pub line: i32,
@@ -206,7 +206,7 @@ pub struct Reading {
 
 // The number, and the length that comes with 0.
 #[repr(C)]
-#[derive(Drop)]
+#[derive(Clone, Copy)]
 pub struct Writing {
     pub number: i32,
     pub length: i32,

@@ -33,7 +33,7 @@ use settings::Settings;
 use shaft::Shaft;
 
 // What a step answers; the voltage is the one that was modulated, before clipping.
-#[derive(Drop)]
+#[derive(Clone, Copy)]
 pub struct Stepped {
     pub drive: Drive,
     pub number: i32,
@@ -42,7 +42,7 @@ pub struct Stepped {
 }
 
 // What the current regulators ask for, and the integrals after it.
-#[derive(Drop)]
+#[derive(Clone, Copy)]
 pub struct Voltage {
     pub asked: Rotor,
     pub integrals: Integrals,

@@ -10,7 +10,7 @@ use drive_record::Drive;
 use text::Line;
 
 // What goes from one row to the next: the drive, how many rows came, the accepted steps and the clipped ones among them.
-#[derive(Drop)]
+#[derive(Clone, Copy)]
 pub struct Tally {
     pub drive: Drive,
     pub rows: u64,
@@ -20,7 +20,7 @@ pub struct Tally {
 
 // Where the program stands between two bytes: the rows so far; the line at hand, its numbers, and whether a byte of it came; whether
 // a line came that is no row, after which nothing is looked at.
-#[derive(Drop)]
+#[derive(Clone, Copy)]
 pub struct Stream {
     pub tally: Tally,
     pub line: Line,
@@ -30,14 +30,14 @@ pub struct Stream {
 }
 
 // A row's answer is written: the rows with it, and the place behind it.
-#[derive(Drop)]
+#[derive(Clone, Copy)]
 pub struct Told {
     pub tally: Tally,
     pub place: usize,
 }
 
 // A chunk is fed: the stream after it, and the place behind what was written.
-#[derive(Drop)]
+#[derive(Clone, Copy)]
 pub struct Passed {
     pub stream: Stream,
     pub place: usize,

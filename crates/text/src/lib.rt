@@ -14,7 +14,7 @@ ghost use Rattle.text.specs.Automaton.{
 };
 
 // A number that is being read: whether a minus sign, whether a digit came, whether it is no number, and its value without the sign.
-#[derive(Drop)]
+#[derive(Clone, Copy)]
 pub struct Word {
     pub minus: bool,
     pub digits: bool,
@@ -23,7 +23,7 @@ pub struct Word {
 }
 
 // A line that is being read: the word at hand, how many numbers came before it, whether the line is refused.
-#[derive(Drop)]
+#[derive(Clone, Copy)]
 pub struct Line {
     pub word: Word,
     pub count: usize,

@@ -19,7 +19,7 @@ ghost use Rattle.values.specs.Value.{
 };
 
 // What a text is read as: a number, or none.
-#[derive(Drop)]
+#[derive(Clone, Copy)]
 pub enum Number {
     Is(u64),
     Wrong,
