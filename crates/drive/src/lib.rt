@@ -1,5 +1,7 @@
 // The calls that people use, `make`, `step`, `target` and `clear`: each takes any words at all and answers with a number of docs/RULES.md. A step
 // that nothing refuses goes through the stages. `step_sound` serves run and stream, which test the record once for many steps.
+#![tactic(auto)]
+
 ghost use Rattle.std.specs.Prelude.{◌≡◌, true};
 ghost use Rattle.drive_record.specs.Record.{sound as sound_of};
 ghost use Rattle.drive.specs.Calls.{
@@ -7,7 +9,7 @@ ghost use Rattle.drive.specs.Calls.{
   made,
   made_number,
   with_trip,
-  refused as refusedOf,
+  refused as refused_of,
   stepped_sound,
   stepped,
   with_target,
@@ -88,7 +90,7 @@ fn with_trip(d: Drive) -> Drive
 }
 
 fn refused(d: Drive, t: i32, number: i32) -> Stepped
-    ensures { result ≡ refusedOf d t number }
+    ensures { result ≡ refused_of d t number }
 {
     Stepped {
         drive: d,

@@ -1,4 +1,6 @@
 // The drive record: which words are in range. Every test takes any words at all.
+#![tactic(auto)]
+
 ghost use Rattle.std.specs.Prelude.{◌≡◌};
 ghost use Rattle.drive_record.specs.Record.{command_ok, integrals_ok, words_ok, sound as sound_of};
 

@@ -1,4 +1,6 @@
 // Lines that are fed in chunks of any size: a line's bytes go to it as they come, whole or not.
+#![tactic(auto)]
+
 ghost use Rattle.std.specs.Prelude.{◌≡◌, ◌≤◌, ◌<◌, length, drop};
 ghost use Rattle.feeding.specs.Lines.{one_more};
 ghost use Rattle.feeding.specs.Feeding.{part_of};

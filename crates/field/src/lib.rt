@@ -1,11 +1,13 @@
 // The flux model: how much flux the rotor has, how fast it slips, and at which angle it stands.
+#![tactic(auto)]
+
 ghost use Rattle.std.specs.Prelude.{◌≡◌, ◌≤◌, nat_abs, ◌+ℤ◌};
 ghost use Rattle.field.specs.Field.{
   fine_next,
   flux_of,
-  slip as slipOf,
+  slip as slip_of,
   angle_next,
-  followed as followedOf,
+  followed as followed_of,
   fine_end,
   flux_end,
   slip_end,
@@ -42,7 +44,7 @@ pub fn flux_of(fine: i32) -> i32
 
 // The slip; where there is hardly any flux it is not divided by.
 fn slip(kt: i32, flux: i32, q: i32) -> i32
-    ensures { result ≡ slipOf kt flux q }
+    ensures { result ≡ slip_of kt flux q }
 {
     if flux < 41 {
         0
@@ -63,7 +65,7 @@ fn angle_next(kth: i32, angle: i32, n: i32, s: i32) -> i32
 // Rule 6.
 pub fn followed(kr: i32, kt: i32, kth: i32, f: Field, d: i32, q: i32, n: i32) -> Field
     requires { FieldSized kr kt kth f d q n }
-    ensures { result ≡ followedOf kr kt kth f d q n }
+    ensures { result ≡ followed_of kr kt kth f d q n }
 {
     let old = f.fine;
     let fine = fine_next(kr, old, d);

@@ -1,5 +1,7 @@
 // What the program sheet says of a text, without its reads and writes. Each of the functions that begin with `put` writes at a place and answers
 // the place behind what it wrote.
+#![tactic(auto)]
+
 ghost use Rattle.std.specs.Prelude.{◌≡◌, ◌+◌, ◌≤◌, ◌<◌, min, length, drop, nat_abs};
 ghost use Rattle.settings.specs.Words.{size, entry_at, entries};
 ghost use Rattle.writing.specs.Decimal.{written};

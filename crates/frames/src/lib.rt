@@ -1,7 +1,9 @@
 // Clarke, Park and inverse Park. A sum of two products is rounded once, and by an explicit floor: a shift or `/` differs below zero.
+#![tactic(auto)]
+
 ghost use Rattle.std.specs.Prelude.{◌≡◌, ◌≤◌, pos, nat_abs, ◌+ℤ◌, ◌-ℤ◌, ◌*ℤ◌};
 ghost use Rattle.fixed.specs.Fixed.{down as down_of};
-ghost use Rattle.frames.specs.Frames.{clarke as clarkeOf, park as parkOf, inverse_park, FrameSized, sample_end};
+ghost use Rattle.frames.specs.Frames.{clarke as clarke_of, park as park_of, inverse_park, FrameSized, sample_end};
 
 // In the stator's frame, which stands still.
 #[derive(Clone, Copy)]
@@ -35,7 +37,7 @@ fn difference(a: i32, m: i32, b: i32, n: i32) -> i32
 
 pub fn clarke(ia: i32, ib: i32) -> Stator
     requires { (nat_abs ia ≤ sample_end) × (nat_abs ib ≤ sample_end) }
-    ensures { result ≡ clarkeOf ia ib }
+    ensures { result ≡ clarke_of ia ib }
 {
     let beta = fixed::scaled(2 * ib + ia, 2365, 4096) as i32;
     Stator {
@@ -46,7 +48,7 @@ pub fn clarke(ia: i32, ib: i32) -> Stator
 
 pub fn park(v: Stator, sin: i32, cos: i32) -> Rotor
     requires { FrameSized v.alpha v.beta sin cos }
-    ensures { result ≡ parkOf v sin cos }
+    ensures { result ≡ park_of v sin cos }
 {
     Rotor {
         d: sum(v.alpha, cos, v.beta, sin),

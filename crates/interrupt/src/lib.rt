@@ -1,6 +1,8 @@
 // The interrupt side: the drive record lies where C has it and is changed in place. Each of the four calls on it hands the record to the
 // function of `drive` that takes it by value, stores the record that comes back, and answers with the rest. The calls move the record
 // whole and look at no word of it.
+#![tactic(auto)]
+
 ghost use Rattle.std.specs.Prelude.{◌≡◌};
 ghost use Rattle.field.specs.Field.{flux_of};
 ghost use Rattle.drive.specs.Calls.{made, made_number, stepped, targeted, cleared};

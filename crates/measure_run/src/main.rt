@@ -1,6 +1,8 @@
 // The run, as often as standard input has bytes: 32 rows a run or, where the first byte is `e`, 16, the first and the last of them in turn. So what
 // a run needs besides its rows is the instructions of two more runs of 16 less those of one more run of 32, whatever reading, starting and writing
 // cost, and the rest of the run of 32 is its rows.
+#![tactic(auto)]
+
 ghost use Rattle.std.specs.Prelude.{◌+◌, ◌≤◌, length};
 
 use drive_record::Drive;

@@ -1,4 +1,6 @@
 // Space-vector modulation: from the voltage asked to the three compares of one period.
+#![tactic(auto)]
+
 ghost use Rattle.std.specs.Prelude.{◌≡◌, ◌≤◌, nat_abs, ◌<ℤ◌, ◌≤ℤ◌};
 ghost use Rattle.modulation.specs.Modulation.{
   entries_of,

@@ -1,5 +1,7 @@
 // The record of the last moments, beside the drive record: the rows of the last 128 accepted steps. Every call takes any drive, any record and any
 // numbers.
+#![tactic(auto)]
+
 ghost use Rattle.std.specs.Prelude.{◌≡◌, ◌<◌, pos};
 ghost use Rattle.moments.specs.Moments.{
   none,

@@ -1,4 +1,6 @@
 // The names of the settings' words, as lines of a sheet begin with them, and their ranges.
+#![tactic(auto)]
+
 ghost use Rattle.std.specs.Prelude.{◌≡◌, true, false, ◌≤◌, ◌<◌};
 ghost use Rattle.settings.specs.Words.{size, entry_at};
 ghost use Rattle.names.specs.Names.{field_of};

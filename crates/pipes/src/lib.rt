@@ -1,4 +1,6 @@
 // Standard input and output, for programs that read, feed and write: what a read brought, and whether a write went through.
+#![tactic(auto)]
+
 ghost use Rattle.std.specs.Prelude.{◌≤◌, length};
 ghost use Rattle.io.specs.Counts.{IsPrefixLen};
 

@@ -1,5 +1,7 @@
 // The calls as text: each line of standard input is one call of `drive`, each line of standard output is what it answered. So that a
 // model of the drive, in any language, can be held against it word by word.
+#![tactic(auto)]
+
 ghost use Rattle.std.specs.Prelude.{◌≡◌, ◌+◌, ◌*◌, ◌≤◌, cond, not, ◌&&◌, [], ltb, pos, length, take, replicate};
 ghost use Rattle.io.specs.Counts.{IsPrefixLen};
 ghost use Rattle.writing.specs.Decimal.{bad_text, written};

@@ -1,4 +1,6 @@
 // The program sheet: standard input is a sheet, or should be one; standard output is what is to be said of it, and the sheet itself where it is good.
+#![tactic(auto)]
+
 ghost use Rattle.std.specs.Prelude.{◌≡◌, ◌+◌, ◌≤◌, ltb, length, take};
 ghost use Rattle.io.specs.Counts.{IsPrefixLen};
 ghost use Rattle.writing.specs.Decimal.{written};

@@ -1,5 +1,7 @@
 // The record of the last moments on the interrupt side: it lies where C has it, beside the drive record. A recorded step stores one row in place, and
 // a row is read in place; the rings are not copied. The drive record is changed as `interrupt` changes it.
+#![tactic(auto)]
+
 ghost use Rattle.std.specs.Prelude.{◌≡◌, pos};
 ghost use Rattle.drive.specs.Calls.{stepped, cleared, made, made_number};
 ghost use Rattle.interrupt.specs.Interrupt.{output_of, drive_or};

@@ -1,4 +1,6 @@
 // The regulator: proportional part, output held to its limits, integral corrected by what the limits took off.
+#![tactic(auto)]
+
 ghost use Rattle.std.specs.Prelude.{◌≡◌};
 ghost use Rattle.regulator.specs.Regulator.{regulated, RegulatorSized};
 

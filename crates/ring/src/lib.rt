@@ -1,5 +1,7 @@
 // The places of a ring of 128, by its two counts: where the next row goes, and where the row i stands. Any counts and any i are taken; counts out of
 // range are those of an empty ring. The places are numbers from 0 to 127, and no remainder is formed.
+#![tactic(auto)]
+
 ghost use Rattle.std.specs.Prelude.{◌≡◌, ◌<◌, ◌≤◌, pos};
 ghost use Rattle.ring.specs.Ring.{
   in_range,

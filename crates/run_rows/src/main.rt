@@ -1,5 +1,7 @@
 // Rows as text, through a run with the bench set: each line of standard input is one row of samples, each line of standard output its three
 // compares and its number. What is read goes to the stream as it comes, and what the stream writes of it is sent at once.
+#![tactic(auto)]
+
 ghost use Rattle.std.specs.Prelude.{◌≡◌, true, not, ◌&&◌, ◌*◌, ◌≤◌, ltb, length, take};
 ghost use Rattle.io.specs.Counts.{IsPrefixLen};
 ghost use Rattle.writing.specs.Decimal.{written};

@@ -1,4 +1,6 @@
 // The settings: their words, which of them are in range, and which number refuses them. Every test takes any words at all.
+#![tactic(auto)]
+
 ghost use Rattle.std.specs.Prelude.{◌≡◌, ◌≤◌, length};
 ghost use Rattle.settings.specs.Settings.{
   period_ok,

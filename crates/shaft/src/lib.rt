@@ -1,4 +1,6 @@
 // Encoder, window, speed, ramp and field weakening: rules 1 and 2 of docs/RULES.md, but for the speed regulator.
+#![tactic(auto)]
+
 ghost use Rattle.std.specs.Prelude.{◌≡◌, ◌≤◌, pos, unsigned_abs};
 ghost use Rattle.shaft.specs.Shaft.{
   signed16,
@@ -12,7 +14,7 @@ ghost use Rattle.shaft.specs.Shaft.{
   size_of,
   weakened as weakened_of,
   fastest,
-  unmoved as unmovedOf,
+  unmoved as unmoved_of,
   shaft_ok,
   Count,
   ShaftSized,
@@ -136,7 +138,7 @@ pub fn weakened(f: i32, n: i32) -> i32
 
 // The shaft of a fresh drive.
 pub fn unmoved() -> Shaft
-    ensures { result ≡ unmovedOf }
+    ensures { result ≡ unmoved_of }
 {
     Shaft {
         count: 0,

@@ -1,4 +1,6 @@
 // The sheet of a motor's settings: text that is read, and text that is written; and both for C.
+#![tactic(auto)]
+
 ghost use Rattle.std.specs.Prelude.{◌≡◌, true, ◌+◌, ◌*◌, ◌≤◌, ◌<◌, pos, length, take};
 ghost use Rattle.values.specs.Value.{before};
 ghost use Rattle.writing.specs.Decimal.{written};

@@ -1,4 +1,6 @@
 // Sine and cosine of an angle, from a quarter of the table.
+#![tactic(auto)]
+
 ghost use Rattle.std.specs.Prelude.{◌≡◌, ◌+◌, ◌%◌, ◌≤◌, ◌<◌, pos, nat_abs, get_or};
 ghost use Rattle.sine.specs.Sine.{sine_entry, Angle, index_of, sine_at, cosine_at, kept_table, place_of, signed_at};
 

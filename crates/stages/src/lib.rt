@@ -1,4 +1,6 @@
 // The stages of a step, rules 1 to 9: each asks for a record that is sound, and for samples that are in range.
+#![tactic(auto)]
+
 ghost use Rattle.std.specs.Prelude.{◌≡◌, true, ◌≤◌, nat_abs, ◌-ℤ◌};
 ghost use Rattle.regulator.specs.Regulator.{RegulatorSized};
 ghost use Rattle.shaft.specs.Shaft.{fastest, Count};
@@ -6,12 +8,12 @@ ghost use Rattle.drive_record.specs.Record.{sound as sound_of};
 ghost use Rattle.stages.specs.Step.{
   speed_gains,
   current_gains,
-  steered as steeredOf,
+  steered as steered_of,
   ramped_by,
   with_command,
-  commanded as commandedOf,
+  commanded as commanded_of,
   rules_1_and_2,
-  currents as currentsOf,
+  currents as currents_of,
   field_after,
   voltage_for,
   with_field,
@@ -72,7 +74,7 @@ fn current_gains(s: Settings) -> Gains
 // A regulator, for speed, d or q: from its integral x, what is wanted and what is.
 fn steered(x: i32, wanted: i32, actual: i32, g: Gains, limit: i32) -> Regulated
     requires { ErrorSized x wanted actual × RegulatorSized x (wanted -ℤ actual) g limit }
-    ensures { result ≡ steeredOf x wanted actual g limit }
+    ensures { result ≡ steered_of x wanted actual g limit }
 {
     regulator::regulate(x, wanted - actual, g, limit)
 }
@@ -107,7 +109,7 @@ fn with_command(d: Drive, s: Shaft, c: Command, u: Regulated) -> Drive
 // Rule 2, on a shaft whose speed has been measured.
 fn commanded(d: Drive, s: Shaft) -> Drive
     requires { (sound_of d ≡ true) × (nat_abs s.speed ≤ fastest) }
-    ensures { result ≡ commandedOf d s }
+    ensures { result ≡ commanded_of d s }
 {
     let c = ramped_by(d, s.speed);
     let g = speed_gains(d.settings);
@@ -133,7 +135,7 @@ fn rules_1_and_2(d: Drive, count: i32) -> Drive
 // Rules 3 and 5.
 fn currents(ia: i32, ib: i32, sin: i32, cos: i32) -> Rotor
     requires { Currents ia ib × SineCosineSized sin cos }
-    ensures { result ≡ currentsOf ia ib sin cos }
+    ensures { result ≡ currents_of ia ib sin cos }
 {
     frames::park(frames::clarke(ia, ib), sin, cos)
 }

@@ -1,4 +1,6 @@
 // The program without its reads and writes: bytes go in as they come, in chunks of any size, and what they are answered comes out.
+#![tactic(auto)]
+
 ghost use Rattle.std.specs.Prelude.{◌≡◌, true, cond, not, ◌&&◌, ◌+◌, ◌*◌, ◌≤◌, eqb, length};
 ghost use Rattle.writing.specs.Decimal.{written};
 ghost use Rattle.drive_record.specs.Record.{sound as sound_of};

@@ -1,6 +1,8 @@
 // Writes the sines of the cases in docs/RULES.md: of the entries 0, 1, 16, 32, 63 and 64, and of the angle 255, which reads entry 0. One number
 // on a line of its own. Then, for each of the 256 entries in turn, and so at every joint of the table, the sine and the cosine of its first angle,
 // two numbers a line.
+#![tactic(auto)]
+
 ghost use Rattle.std.specs.Prelude.{◌≤◌, length};
 ghost use Rattle.sine.specs.Sine.{Angle};
 

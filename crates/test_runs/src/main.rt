@@ -1,5 +1,7 @@
 // The run's own number, where rows fit and where they do not. Each run has two lines: the accepted steps, the clipped ones among them and the
 // run's number; and the output after it, of which the run was lent a part, and which was 7 in every place.
+#![tactic(auto)]
+
 ghost use Rattle.std.specs.Prelude.{◌≤◌, length};
 
 use drive_record::Drive;

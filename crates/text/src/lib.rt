@@ -1,4 +1,6 @@
 // Lines of decimal numbers, read byte by byte, so that a line may be of any length.
+#![tactic(auto)]
+
 ghost use Rattle.std.specs.Prelude.{◌≡◌, min, length};
 ghost use Rattle.text.specs.Automaton.{
   word_start,

@@ -1,4 +1,6 @@
 // Values: how a whole number and a gain of a sheet are read and written.
+#![tactic(auto)]
+
 ghost use Rattle.std.specs.Prelude.{◌≡◌, ◌+◌, ◌^◌, ◌≤◌, ◌<◌, length};
 ghost use Rattle.text.specs.Grammar.{is_digit};
 ghost use Rattle.writing.specs.Decimal.{written};

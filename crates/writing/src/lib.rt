@@ -1,4 +1,6 @@
 // Numbers as text, written into a buffer.
+#![tactic(auto)]
+
 ghost use Rattle.std.specs.Prelude.{◌≡◌, ◌+◌, ◌*◌, ◌≤◌, ◌∷◌, [], nat_abs, length, take};
 ghost use Rattle.writing.specs.Decimal.{last_digits, count_text, text_of, line_text, bad_text, written};
 

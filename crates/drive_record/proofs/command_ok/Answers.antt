@@ -1,0 +1,39 @@
+-- `drive_record::command_ok` meets its contract.
+-- Assumes nothing.
+use Rattle.fixed.proofs.Reading.{fits, bound}
+use Rattle.fixed.specs.Fixed.{inside as is_inside}
+use Rattle.drive_record.specs.Record.{command_ok}
+use Rattle.settings.proofs.SettingsFromBits.{from_bits, FromBits}
+use Rattle.drive_record.proofs.CommandFromBits.{from_bits as told_command}
+use Rattle.fixed.proofs.Asked.{field, wide}
+use Rattle.drive_record.proofs.command_ok.Goals as goal
+
+back : (s : goal.Start) → FromBits s.args.s
+back s = from_bits s.args.s _ s.well-formed.0.1.1
+
+pub returns : goal.returns
+unfolding command_ok is_inside
+returns c =
+    let c3 = c.before.before.before in
+    let c2 = c3.before.before.before.before in
+    let c1 = c2.before.before in
+    let s = c1.before.before in
+    let b = told_command s.args.c _ s.well-formed.1.0.1.1 in
+    simp (
+      c1.within.ensures,
+      c2.within-2.ensures,
+      c3.inside.ensures,
+      c.within-3.ensures,
+      b.target,
+      b.reference,
+      b.torque,
+      b.flux,
+      (wide (back s).q).is,
+      (back s).f,
+    )
+
+pub overflow_cast-s : goal.overflow_cast-s
+overflow_cast-s c = fits (field (back c.before.before.before.before.before.before).q) tt
+
+pub inside-requires : goal.inside-requires
+inside-requires c = bound (wide (back c.before.before.before.before.before.before.before).q) tt

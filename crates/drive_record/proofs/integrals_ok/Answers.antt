@@ -1,0 +1,38 @@
+-- `drive_record::integrals_ok` meets its contract.
+-- Assumes nothing.
+use Rattle.fixed.proofs.Reading.{fits, bound}
+use Rattle.drive_record.specs.Record.{integrals_ok}
+use Rattle.settings.proofs.SettingsFromBits.{from_bits, FromBits}
+use Rattle.drive_record.proofs.IntegralsFromBits.{from_bits as told_integrals}
+use Rattle.fixed.proofs.Asked.{field, wide}
+use Rattle.drive_record.proofs.integrals_ok.Goals as goal
+
+back : (s : goal.Start) → FromBits s.args.s
+back s = from_bits s.args.s _ s.well-formed.0.1.1
+
+pub returns : goal.returns
+unfolding integrals_ok
+returns c =
+    let c2 = c.before.before.before.before in
+    let c1 = c2.before.before.before.before in
+    let s = c1.before.before.before.before in
+    let b = told_integrals s.args.x _ s.well-formed.1.0.1.1 in
+    simp (c1.inside.ensures, c2.inside-2.ensures, c.inside-3.ensures, b.speed, b.d, b.q, (wide (back s).q).is, (wide (back s).v).is)
+
+pub overflow_cast-s : goal.overflow_cast-s
+overflow_cast-s c = fits (field (back c.before.before).q) tt
+
+pub inside-requires : goal.inside-requires
+inside-requires c = bound (wide (back c.before.before.before).q) tt
+
+pub overflow_cast-s-2 : goal.overflow_cast-s-2
+overflow_cast-s-2 c = fits (field (back c.before.before.before.before.before.before).v) tt
+
+pub inside-requires-2 : goal.inside-requires-2
+inside-requires-2 c = bound (wide (back c.before.before.before.before.before.before.before).v) tt
+
+pub overflow_cast-s-3 : goal.overflow_cast-s-3
+overflow_cast-s-3 c = fits (field (back c.before.before.before.before.before.before.before.before.before.before).v) tt
+
+pub inside-requires-3 : goal.inside-requires-3
+inside-requires-3 c = bound (wide (back c.before.before.before.before.before.before.before.before.before.before.before).v) tt

@@ -1,0 +1,39 @@
+-- `field::slip` meets its contract: what is divided by is at least 41.
+-- Assumes nothing.
+use borrow.Author.Rules.{rules}
+use mathlib.Core.Path.{ap, ◌∙◌, sym}
+use native.Mathlib.Omega.{arith}
+use lib.IntN.{ℤ, pos, neg_ℤ, ◌*ℤ◌}
+use lib.Signed.{◌≤ℤ◌, ◌<ℤ◌}
+use mir.Syntax.{w32, w64}
+use Rattle.fixed.specs.Fixed.{down, held}
+use Rattle.fixed.proofs.Parts.{order}
+use Rattle.fixed.proofs.Equal.{ap₃}
+use Rattle.fixed.proofs.Reading.{word, answer, lit, is_less, not_less}
+use Rattle.field.proofs.FieldLaws.{slip_none, slip_some}
+use Rattle.field.specs.Field.{slip_end}
+use Rattle.field.proofs.slip.Goals as goal
+
+enough : (c : goal.Else-flux-lt41) → pos 41 ≤ℤ c.before.args.flux
+enough c = not_less (word c.before.ranges.flux) (lit (pos 41)) c.if-flux-lt41.false
+
+pub scaled-requires : goal.scaled-requires
+scaled-requires c = rw (word c.before.ranges.flux).is (positive (enough c))
+  where
+    positive : {f : ℤ} → pos 41 ≤ℤ f → pos 0 <ℤ f
+    positive {f} h = omega (arith, order)
+
+pub returns-then-flux-lt41 : goal.returns-then-flux-lt41
+returns-then-flux-lt41 c = let s = c.before in sym (slip_none s.args.kt s.args.flux s.args.q (is_less (word s.ranges.flux) (lit (pos 41)) c.if-flux-lt41.true))
+
+pub returns-else-flux-lt41 : goal.returns-else-flux-lt41
+returns-else-flux-lt41 c =
+    let e = c.before.before in
+    let s = e.before in
+    (answer w32 c.hold_to.type_inv).is
+    ∙ c.hold_to.ensures
+    ∙ ap (λ (z : ℤ). held z (neg_ℤ (pos slip_end)) (pos slip_end))
+    ((answer w64 c.before.scaled.type_inv).is
+    ∙ c.before.scaled.ensures
+    ∙ ap₃ (λ (k q f : ℤ). down (k *ℤ q) f) (word s.ranges.kt).is (word s.ranges.q).is (word s.ranges.flux).is)
+    ∙ sym (slip_some s.args.kt s.args.flux s.args.q (enough e))

@@ -1,0 +1,41 @@
+-- `findings::put_judged` meets its contract.
+-- Assumes nothing.
+use borrow.Author.Rules.{rules}
+use mathlib.Core.Path.{◌≡◌, ap, sym, ◌∙◌}
+use native.Mathlib.Omega.{arith}
+use mir.Syntax.{w32}
+use Rattle.fixed.proofs.Reading.{m32, answer}
+use Rattle.writing.proofs.TextLaws.{put}
+use Rattle.settings.proofs.Ranges.{checked_accepted, checked_refused}
+use Rattle.values.proofs.Putting.{named}
+use Rattle.findings.specs.Findings.{accepted_text, refused_text, judged_text}
+use Rattle.findings.proofs.put_judged.Goals as goal
+
+pub returns-in-Accepted : goal.returns-in-Accepted
+unfolding judged_text
+returns-in-Accepted c =
+    let p = c.before.before in
+    let q = p.before.before in
+    let g = q.before.a-1.given in
+    let k = q.before.before.before in
+    let s = k.before.before.args.s in
+    let h = checked_accepted s g.0.0 (sym k.check.ensures ∙ g.1) in
+    let e = p.put_accepted.ensures in
+    let own : judged_text s ≡ accepted_text g.0.0 = rw h.0 (ap accepted_text h.1) in
+    let r = named (put e.0 e.1) own in
+    (r.0, r.1, e.2)
+
+pub returns-in-Refused : goal.returns-in-Refused
+unfolding judged_text
+returns-in-Refused c =
+    let p = c.before.before in
+    let q = p.before.before in
+    let g = q.before.n-1.given in
+    let k = q.before.before.before in
+    let s = k.before.before.args.s in
+    let h = checked_refused s g.0.0 (sym k.check.ensures ∙ g.1) in
+    let e = p.Put-refused.ensures in
+    let z = (answer w32 {x = g.0.0} q.known_told-in-Refused-1.given.0.1).is ∙ h.1 in
+    let own : judged_text s ≡ refused_text s (m32 g.0.0) = rw h.0 (ap (refused_text s) (sym z)) in
+    let r = named (put e.0 e.1) own in
+    (r.0, r.1, omega (arith, e.2))

@@ -1,0 +1,21 @@
+-- `findings::put_kind` meets its contract.
+-- Assumes nothing.
+use borrow.Author.Rules.{rules}
+use native.Mathlib.Omega.{arith}
+use Rattle.findings.specs.Phrases.{gain_kind, whole_kind}
+use Rattle.findings.specs.Findings.{kind_text}
+use Rattle.findings.proofs.put_kind.Goals as goal
+
+pub returns-then-gain : goal.returns-then-gain
+unfolding kind_text gain_kind
+returns-then-gain c =
+    let k = c.before.before in
+    let e = k.put_text.ensures in
+    rw k.before.before.before.if-gain.true (e.0, e.1, omega arith)
+
+pub returns-then-gain : goal.returns
+unfolding kind_text whole_kind
+returns-then-gain c =
+    let k = c.before.before in
+    let e = k.put_text-2.ensures in
+    rw k.before.before.before.if-gain.false (e.0, e.1, omega arith)

@@ -1,0 +1,24 @@
+-- `findings::put_product` meets its contract.
+-- Assumes nothing.
+use borrow.Author.Rules.{rules}
+use native.Mathlib.Omega.{arith}
+use lib.ListN.{length-append}
+use Rattle.writing.proofs.TextLaws.{put, put_then}
+use Rattle.findings.specs.Phrases.{times}
+use Rattle.findings.specs.Findings.{product_text}
+use Rattle.findings.proofs.put_product.Goals as goal
+
+pub returns : goal.returns
+unfolding product_text times
+returns c =
+    let w = c.before.before in
+    let t = w.before.before.before.before in
+    let n = t.before.before.before.before.before in
+    let s = n.before.before.before in
+    let h = s.requires.1 in
+    let m = n.put_name-a.ensures in
+    let v = w.put_name.ensures in
+    let i = put m.0 m.1 in
+    let j = put_then i (put t.put_text-b.ensures.0 t.put_text-b.ensures.1) (omega (arith, h, m.0, m.2)) in
+    let k = put_then j (put v.0 v.1) (simp length-append (omega (arith, h, m.0, m.2, v.0, v.2))) in
+    (k.next, k.wrote, omega (arith, m.2, t.put_text-b.ensures.0, v.2))

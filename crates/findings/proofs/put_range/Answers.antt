@@ -1,0 +1,29 @@
+-- `findings::put_range` meets its contract.
+-- Assumes nothing.
+use borrow.Author.Rules.{rules}
+use mathlib.Core.Path.{ap, sym}
+use native.Mathlib.Omega.{arith}
+use lib.ListN.{length-append}
+use mir.Facts.{to_z-of_z}
+use Rattle.writing.proofs.TextLaws.{put, put_then}
+use Rattle.settings.specs.Words.{entry_at}
+use Rattle.values.proofs.Putting.{named}
+use Rattle.findings.specs.Phrases.{must_be}
+use Rattle.findings.specs.Findings.{range_text}
+use Rattle.findings.proofs.put_range.Goals as goal
+
+pub returns : goal.returns
+unfolding range_text must_be
+returns c =
+    let w = c.before.before in
+    let t = w.before.before.before.before in
+    let n = t.before.before.before.before.before in
+    let s = n.before.before.before in
+    let h = s.requires.1 in
+    let m = n.put_is-a.ensures in
+    let v = w.put_ends.ensures in
+    let i = put m.0 m.1 in
+    let j = put_then i (put t.put_text-b.ensures.0 t.put_text-b.ensures.1) (omega (arith, h, m.0, m.2)) in
+    let k = put_then j (put v.0 v.1) (simp length-append (omega (arith, h, m.0, m.2, v.0, v.2))) in
+    let r = named k (ap (range_text (entry_at s.args.i)) (sym (to_z-of_z s.ranges.w))) in
+    (r.0, r.1, omega (arith, m.2, t.put_text-b.ensures.0, v.2))

@@ -1,0 +1,10 @@
+-- `findings::shown_byte` meets its contract.
+-- Assumes nothing.
+use mathlib.Core.Path.{refl}
+use Rattle.findings.proofs.shown_byte.Goals as goal
+
+pub returns-then-b : goal.returns-then-b
+returns-then-b c = rw c.if-b.true refl
+
+pub returns-else-b : goal.returns-else-b
+returns-else-b c = rw c.if-b.false refl

@@ -1,0 +1,11 @@
+-- `recorder::emptied` meets its contract. Assumes nothing.
+use borrow.Author.Rules.{rules}
+use mathlib.Core.Path.{◌∙◌, ap}
+use mir.Facts.{to_z-of_z}
+use Rattle.moments.specs.Moments.{emptied_by}
+use Rattle.recorder.proofs.emptied.Goals as goal
+
+pub returns : goal.returns
+returns c =
+    let k = c.before.before in
+    c.emptied_by.ensures ∙ ap (emptied_by k.args.m) (to_z-of_z (record { sfits = k.well-formed.1.0.1.1.1.0.1 }))

@@ -1,0 +1,48 @@
+-- `rows::rows_run` meets its contract. The measure is how many rows are left.
+-- Assumes nothing.
+use mathlib.Core.Path.{◌≡◌, refl}
+use Prim.Native.Nat.{◌-◌}
+use native.Mathlib.Omega.{arith}
+use Rattle.drive_record.proofs.Ranges.{sound→, sound←}
+use Rattle.rows.proofs.Runs.{Upto, more, one_most}
+use Rattle.rows.specs.Rows.{is_accepted, is_clipped, no_rows, ran_of, written_of}
+use Rattle.rows.proofs.rows_run.Goals as goal
+
+pub returns : goal.returns
+returns c =
+    let l = c.before.loop-i in
+    let e : c.before.before.args.n ≡ l.i = omega arith in
+    (rw e l.invariant.ran, rw e l.invariant.wrote)
+
+pub loop-i-init : goal.loop-i-init
+unfolding ran_of no_rows written_of
+loop-i-init c = record {
+  low = omega arith;
+  is_sound = sound→ c.args.d c.requires.0;
+  ran = refl;
+  few = omega arith;
+  fewer = omega arith;
+  long = refl;
+  wrote = refl;
+  small = omega arith;
+}
+
+pub loop-i-preserved : goal.loop-i-preserved
+loop-i-preserved c =
+    let r = c.before.before.before.before in
+    let k = r.before.before in
+    more k.before.before.loop-i.invariant k.Row-step.result
+    r.put_row.new.0 c.before.before.accepted_in-accepted.result c.before.clipped_in-clipped.result k.before.loop-i-test.true
+    k.Row-step.ensures r.put_row.ensures r.put_row.auto.0 c.before.before.accepted_in-accepted.ensures c.before.clipped_in-clipped.ensures
+
+pub row_step-s-requires : goal.row_step-s-requires
+row_step-s-requires c = (sound← c.before.loop-i.cur-1 c.before.loop-i.invariant.is_sound, omega arith)
+
+pub overflow_add-accepted : goal.overflow_add-accepted
+overflow_add-accepted c = omega (arith, one_most (is_accepted c.before.before.before.before.Row-step.result))
+
+pub overflow_add-clipped : goal.overflow_add-clipped
+overflow_add-clipped c = omega (arith, one_most (is_clipped c.before.before.before.before.before.Row-step.result))
+
+pub shape_of-out : goal.shape_of-out
+shape_of-out c = c.before.loop-i.invariant.long

@@ -1,0 +1,15 @@
+-- `rows::rows_run` meets its contract. The measure is how many rows are left.
+-- Assumes nothing.
+use mathlib.Core.Path.{◌≡◌, refl}
+use Prim.Native.Nat.{◌-◌}
+use native.Mathlib.Omega.{arith}
+use Rattle.drive_record.proofs.Ranges.{sound→, sound←}
+use Rattle.rows.proofs.Runs.{Upto, more, one_most}
+use Rattle.rows.specs.Rows.{is_accepted, is_clipped, no_rows, ran_of, written_of}
+use Rattle.rows.proofs.rows_run.Given as goal
+
+abbrev pub invariant-loop-i : goal.invariant-loop-i
+invariant-loop-i l = Upto l.initial.cur l.samples l.initial.out l.n l.out l.cur l.accepted l.clipped l.i
+
+abbrev pub decreases-loop-i : goal.decreases-loop-i
+decreases-loop-i l = l.n - l.i

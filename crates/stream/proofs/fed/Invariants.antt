@@ -1,0 +1,19 @@
+-- `stream::fed` meets its contract. The measure is how many bytes are left.
+-- Assumes nothing.
+use Prim.Native.Nat.{◌-◌}
+use mathlib.Core.Path.{sym, ◌∙◌, ap}
+use mathlib.Core.Bool.{Bool, ◌&&◌}
+use native.Mathlib.Omega.{arith}
+use borrow.Author.Rules.{length_unmapped}
+use borrow.Author.Tests.{not-true, not-false}
+use lib.ListN.{length}
+use Rattle.drive_record.proofs.Ranges.{sound→, sound←}
+use Rattle.stream.proofs.Feeding.{Telling, telling_start, telling_row, telling_else, telling_past, telling_stopped}
+use Rattle.stream.proofs.fed.Given as goal
+
+abbrev pub invariant-loop-i : goal.invariant-loop-i
+invariant-loop-i l = Telling (record { tally = l.initial.tally; line = l.initial.line; row = l.initial.row; begun = l.initial.begun; stopped = l.initial.stopped }) l.chunk l.at l.initial.out l.out
+    (record { tally = l.tally; line = l.line; row = l.row; begun = l.begun; stopped = l.stopped }) l.place l.i
+
+abbrev pub decreases-loop-i : goal.decreases-loop-i
+decreases-loop-i l = length l.chunk - l.i

@@ -1,0 +1,7 @@
+-- `stream::next_if` meets its contract.
+-- Assumes nothing.
+use borrow.Author.Rules.{rules}
+use Rattle.stream.proofs.next_if.Goals as goal
+
+pub returns-then-more : goal.returns-then-more
+returns-then-more c = rw c.before.if-more.true c.next.ensures

@@ -1,0 +1,10 @@
+-- `stream::put_header` meets its contract.
+-- Assumes nothing.
+use borrow.Author.Rules.{rules}
+use native.Mathlib.Omega.{arith}
+use Rattle.stream.specs.Program.{header_text}
+use Rattle.stream.proofs.put_header.Goals as goal
+
+pub returns : goal.returns
+unfolding header_text
+returns c = let e = c.before.before.put_text.ensures in (e.0, e.1, omega arith)

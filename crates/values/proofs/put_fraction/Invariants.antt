@@ -1,0 +1,12 @@
+-- `values::put_fraction` meets its contract. The measure is how many digits there is room for.
+-- Assumes nothing.
+use Prim.Native.Nat.{◌+◌, ◌-◌}
+use native.Mathlib.Omega.{arith}
+use Rattle.values.proofs.Putting.{Dividing, dividing_start, dividing_room, dividing_more, dividing_end}
+use Rattle.values.proofs.put_fraction.Given as goal
+
+abbrev pub invariant-loop-rest : goal.invariant-loop-rest
+invariant-loop-rest l = Dividing l.f l.at l.initial.out l.out l.rest l.place
+
+abbrev pub decreases-loop-rest : goal.decreases-loop-rest
+decreases-loop-rest l = l.at + 12 - l.place
