@@ -2,6 +2,7 @@
 -- Assumes nothing.
 use mathlib.Core.Path.{◌≡◌}
 use mir.Facts.{to_z-of_z}
+use mir.Syntax.{w32}
 use denote.RattleType.{Valss}
 use denote.Struct.Struct.{AreAll}
 use denote.Struct.Declared.{fields}
@@ -19,10 +20,10 @@ pub record FromBits (this : Row) : Type 0 where
 
 pub from_bits : (this : Row) (vss : Valss (fields the_type)) → AreAll (fields the_type) (the_type.to this) vss → FromBits this
 from_bits this vss g = record {
-  ia = to_z-of_z (record { sfits = g.0.1 });
-  ib = to_z-of_z (record { sfits = g.1.0.1 });
-  speed = to_z-of_z (record { sfits = g.1.1.0.1 });
-  a = to_z-of_z (record { sfits = g.1.1.1.0.1 });
-  b = to_z-of_z (record { sfits = g.1.1.1.1.0.1 });
-  c = to_z-of_z (record { sfits = g.1.1.1.1.1.0.1 });
+  ia = to_z-of_z {w = w32} (record { sfits = g.0.1 });
+  ib = to_z-of_z {w = w32} (record { sfits = g.1.0.1 });
+  speed = to_z-of_z {w = w32} (record { sfits = g.1.1.0.1 });
+  a = to_z-of_z {w = w32} (record { sfits = g.1.1.1.0.1 });
+  b = to_z-of_z {w = w32} (record { sfits = g.1.1.1.1.0.1 });
+  c = to_z-of_z {w = w32} (record { sfits = g.1.1.1.1.1.0.1 });
 }

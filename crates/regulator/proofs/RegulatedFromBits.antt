@@ -2,6 +2,7 @@
 -- Assumes nothing.
 use mathlib.Core.Path.{◌≡◌}
 use mir.Facts.{to_z-of_z}
+use mir.Syntax.{w32}
 use denote.RattleType.{Valss}
 use denote.Struct.Struct.{AreAll}
 use denote.Struct.Declared.{fields}
@@ -15,6 +16,6 @@ pub record FromBits (this : Regulated) : Type 0 where
 
 pub from_bits : (this : Regulated) (vss : Valss (fields the_type)) → AreAll (fields the_type) (the_type.to this) vss → FromBits this
 from_bits this vss g = record {
-  out = to_z-of_z (record { sfits = g.0.1 });
-  x = to_z-of_z (record { sfits = g.1.0.1 });
+  out = to_z-of_z {w = w32} (record { sfits = g.0.1 });
+  x = to_z-of_z {w = w32} (record { sfits = g.1.0.1 });
 }

@@ -2,6 +2,7 @@
 -- Assumes nothing.
 use mathlib.Core.Path.{◌≡◌}
 use mir.Facts.{to_z-of_z}
+use mir.Syntax.{w32}
 use denote.RattleType.{Valss}
 use denote.Struct.Struct.{AreAll}
 use denote.Struct.Declared.{fields}
@@ -28,19 +29,19 @@ pub record FromBits (this : Settings) : Type 0 where
 
 pub from_bits : (this : Settings) (vss : Valss (fields the_type)) → AreAll (fields the_type) (the_type.to this) vss → FromBits this
 from_bits this vss g = record {
-  t = to_z-of_z (record { sfits = g.0.1 });
-  skp = to_z-of_z (record { sfits = g.1.0.1 });
-  skcor = to_z-of_z (record { sfits = g.1.1.0.1 });
-  ski = to_z-of_z (record { sfits = g.1.1.1.0.1 });
-  ckp = to_z-of_z (record { sfits = g.1.1.1.1.0.1 });
-  ckcor = to_z-of_z (record { sfits = g.1.1.1.1.1.0.1 });
-  cki = to_z-of_z (record { sfits = g.1.1.1.1.1.1.0.1 });
-  v = to_z-of_z (record { sfits = g.1.1.1.1.1.1.1.0.1 });
-  q = to_z-of_z (record { sfits = g.1.1.1.1.1.1.1.1.0.1 });
-  kr = to_z-of_z (record { sfits = g.1.1.1.1.1.1.1.1.1.0.1 });
-  kt = to_z-of_z (record { sfits = g.1.1.1.1.1.1.1.1.1.1.0.1 });
-  kth = to_z-of_z (record { sfits = g.1.1.1.1.1.1.1.1.1.1.1.0.1 });
-  kn = to_z-of_z (record { sfits = g.1.1.1.1.1.1.1.1.1.1.1.1.0.1 });
-  f = to_z-of_z (record { sfits = g.1.1.1.1.1.1.1.1.1.1.1.1.1.0.1 });
-  r = to_z-of_z (record { sfits = g.1.1.1.1.1.1.1.1.1.1.1.1.1.1.0.1 });
+  t = to_z-of_z {w = w32} (record { sfits = g.0.1 });
+  skp = to_z-of_z {w = w32} (record { sfits = g.1.0.1 });
+  skcor = to_z-of_z {w = w32} (record { sfits = g.1.1.0.1 });
+  ski = to_z-of_z {w = w32} (record { sfits = g.1.1.1.0.1 });
+  ckp = to_z-of_z {w = w32} (record { sfits = g.1.1.1.1.0.1 });
+  ckcor = to_z-of_z {w = w32} (record { sfits = g.1.1.1.1.1.0.1 });
+  cki = to_z-of_z {w = w32} (record { sfits = g.1.1.1.1.1.1.0.1 });
+  v = to_z-of_z {w = w32} (record { sfits = g.1.1.1.1.1.1.1.0.1 });
+  q = to_z-of_z {w = w32} (record { sfits = g.1.1.1.1.1.1.1.1.0.1 });
+  kr = to_z-of_z {w = w32} (record { sfits = g.1.1.1.1.1.1.1.1.1.0.1 });
+  kt = to_z-of_z {w = w32} (record { sfits = g.1.1.1.1.1.1.1.1.1.1.0.1 });
+  kth = to_z-of_z {w = w32} (record { sfits = g.1.1.1.1.1.1.1.1.1.1.1.0.1 });
+  kn = to_z-of_z {w = w32} (record { sfits = g.1.1.1.1.1.1.1.1.1.1.1.1.0.1 });
+  f = to_z-of_z {w = w32} (record { sfits = g.1.1.1.1.1.1.1.1.1.1.1.1.1.0.1 });
+  r = to_z-of_z {w = w32} (record { sfits = g.1.1.1.1.1.1.1.1.1.1.1.1.1.1.0.1 });
 }

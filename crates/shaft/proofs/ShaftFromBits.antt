@@ -1,6 +1,8 @@
 -- Written by tools/from_bits: each signed word of a Shaft comes back from its bits.
 -- Assumes nothing.
-use Rattle.std.proofs.Common.{◌≡◌, to_z-of_z}
+use mathlib.Core.Path.{◌≡◌}
+use mir.Facts.{to_z-of_z}
+use mir.Syntax.{w32}
 use denote.RattleType.{Valss}
 use denote.Struct.Struct.{AreAll}
 use denote.Struct.Declared.{fields}
@@ -16,8 +18,8 @@ pub record FromBits (this : Shaft) : Type 0 where
 
 pub from_bits : (this : Shaft) (vss : Valss (fields the_type)) → AreAll (fields the_type) (the_type.to this) vss → FromBits this
 from_bits this vss g = record {
-  count = to_z-of_z (record { sfits = g.0.1 });
-  sum = to_z-of_z (record { sfits = g.1.1.0.1 });
-  steps = to_z-of_z (record { sfits = g.1.1.1.0.1 });
-  speed = to_z-of_z (record { sfits = g.1.1.1.1.0.1 });
+  count = to_z-of_z {w = w32} (record { sfits = g.0.1 });
+  sum = to_z-of_z {w = w32} (record { sfits = g.1.1.0.1 });
+  steps = to_z-of_z {w = w32} (record { sfits = g.1.1.1.0.1 });
+  speed = to_z-of_z {w = w32} (record { sfits = g.1.1.1.1.0.1 });
 }
