@@ -2,21 +2,21 @@
 -- that came back from its bits.
 -- Assumes nothing.
 use mathlib.Core.Path.{◌≡◌, sym, ◌∙◌, refl, subst}
-use mathlib.Core.Bool.{Bool, true, false, not}
+use mathlib.Core.Bool.{Bool, true, false}
 use Prim.Native.Nat.{ℕ, suc, ◌-◌, ◌^◌, ◌≤◌}
 use native.Mathlib.Omega.{arith}
-use borrow.Author.Tests.{not-true, not-false, ltb-true, ltb-false}
+use borrow.Author.Tests.{ltb-true, ltb-false}
 use lib.Dec.{ltb}
 use lib.IntN.{ℤ, pos, negsuc, nat_abs}
 use mir.Syntax.{w32, w64}
 use mir.Val.{to_z, of_z, sel}
 use Rattle.fixed.proofs.Reading.{Reads, m32, m64, stored}
 
-pub no : {r b : Bool} → r ≡ b → not r ≡ true → b ≡ false
-no {r} e t = sym e ∙ not-true r t
+pub no : {r b : Bool} → r ≡ b → r ≡ false → b ≡ false
+no e t = sym e ∙ t
 
-pub yes : {r b : Bool} → r ≡ b → not r ≡ false → b ≡ true
-yes {r} e t = sym e ∙ not-false r t
+pub yes : {r b : Bool} → r ≡ b → r ≡ true → b ≡ true
+yes e t = sym e ∙ t
 
 -- no 32 bits hold a larger number
 size : (n : ℕ) → nat_abs (to_z w32 n) ≤ 2 ^ 31

@@ -7,7 +7,7 @@ use lib.IntN.{ℤ, pos, ◌*ℤ◌}
 use lib.Signed.{le_z}
 use Rattle.fixed.specs.Fixed.{is_in}
 use Rattle.fixed.proofs.HeldLaws.{and_both, equal_is}
-use Rattle.fixed.proofs.LadderLaws.{all_pass, none_given, answered_by_lem}
+use Rattle.fixed.proofs.LadderLaws.{all_pass_lem, none_given, answered_by_lem}
 use Rattle.fixed.proofs.Ranges.{In, two, three, four}
 use Rattle.settings.specs.declared.Settings.{Settings}
 use Rattle.settings.specs.declared.Checked.TheVariants.{Accepted, Refused}
@@ -52,7 +52,7 @@ gains← kp kcor ki g = and_both (and_both g.kp_in g.kcor_in) g.ki_in
 pub accepted→ : (s : Settings) → accepted s ≡ true → SettingsIn s
 unfolding accepted period_ok gains_ok gains_tied limits_ok rest_ok
 accepted→ s h =
-    let e = (all_pass (refusals s)).0 h in
+    let e = (all_pass_lem (refusals s)).0 h in
     let g = two (gain_ok s.skp s.skcor s.ski) (gain_ok s.ckp s.ckcor s.cki) e.1.0 in
     let t = two (tied s.skp s.skcor s.ski) (tied s.ckp s.ckcor s.cki) e.1.1.0 in
     let l = two (is_in range.v s.v) (is_in range.q s.q) e.1.1.1.0 in
@@ -79,7 +79,7 @@ accepted← s i =
     let gains = and_both (gains← _ _ _ i.speed) (gains← _ _ _ i.current) in
     let ties = and_both ((tied_is _ _ _).1 i.speed.is_tied) ((tied_is _ _ _).1 i.current.is_tied) in
     let rest = and_both (and_both (and_both (and_both (and_both i.kr i.kt) i.kth) i.kn) i.f) i.r in
-    (all_pass (refusals s)).1 (i.t, (gains, (ties, (and_both i.v i.q, (rest, tt)))))
+    (all_pass_lem (refusals s)).1 (i.t, (gains, (ties, (and_both i.v i.q, (rest, tt)))))
 
 -- ════ the check
 pub checked_is : (s : Settings) → checked s ≡ cond (accepted s) (Accepted s) (Refused (refusal s))

@@ -9,4 +9,4 @@ unfolding fresh_of
 returns c =
     let u = c.before.before in
     let s = u.before in
-    simp (u.unmoved.ensures, c.still.ensures, (from_bits s.args.s _ s.well-formed.0.1.1).f)
+    simp (u.unmoved.ensures, c.still.ensures, (from_bits s.args.s _ s.well_formed.0.1.1).f)

@@ -14,7 +14,7 @@ returns : tie.Need-returns-then-d
 unfolding stepped_sound
 returns c =
     let s = c.before.before.before in
-    let b = from_bits s.args.d _ s.well-formed.0.1.1 in
+    let b = from_bits s.args.d _ s.well_formed.0.1.1 in
     simp (c.refused.ensures, b.settings.t, c.before.before.if-d.true)
 
 sample_is : (c : tie.After-sample_ok)
@@ -28,7 +28,7 @@ unfolding stepped_sound
 returns-2 c =
     let k = c.before.before.before.before in
     let s = k.before.before in
-    let b = from_bits s.args.d _ s.well-formed.0.1.1 in
+    let b = from_bits s.args.d _ s.well_formed.0.1.1 in
     simp (
       c.refused-then-not-sample_ok.ensures,
       c.before.before.with_trip.ensures,

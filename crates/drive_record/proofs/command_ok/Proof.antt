@@ -10,7 +10,7 @@ use Rattle.drive_record.proofs.command_ok.Statement.{statement}
 use Rattle.drive_record.proofs.command_ok.Tie as tie
 
 back : (s : tie.Start) → FromBits s.args.s
-back s = from_bits s.args.s _ s.well-formed.0.1.1
+back s = from_bits s.args.s _ s.well_formed.0.1.1
 
 returns : tie.Need-returns
 unfolding command_ok is_inside
@@ -19,7 +19,7 @@ returns c =
     let c2 = c3.before.before.before.before in
     let c1 = c2.before.before in
     let s = c1.before.before in
-    let b = told_command s.args.c _ s.well-formed.1.0.1.1 in
+    let b = told_command s.args.c _ s.well_formed.1.0.1.1 in
     simp (
       c1.within.ensures,
       c2.within-2.ensures,

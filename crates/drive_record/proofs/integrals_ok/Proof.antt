@@ -9,7 +9,7 @@ use Rattle.drive_record.proofs.integrals_ok.Statement.{statement}
 use Rattle.drive_record.proofs.integrals_ok.Tie as tie
 
 back : (s : tie.Start) → FromBits s.args.s
-back s = from_bits s.args.s _ s.well-formed.0.1.1
+back s = from_bits s.args.s _ s.well_formed.0.1.1
 
 returns : tie.Need-returns
 unfolding integrals_ok
@@ -17,7 +17,7 @@ returns c =
     let c2 = c.before.before.before.before in
     let c1 = c2.before.before.before.before in
     let s = c1.before.before.before.before in
-    let b = told_integrals s.args.x _ s.well-formed.1.0.1.1 in
+    let b = told_integrals s.args.x _ s.well_formed.1.0.1.1 in
     simp (c1.inside.ensures, c2.inside-2.ensures, c.inside-3.ensures, b.speed, b.d, b.q, (wide (back s).q).is, (wide (back s).v).is)
 
 pub integrals_ok_spec : {M : Type 1} → statement M

@@ -8,6 +8,6 @@ pub returns-then-not-is_accepted : goal.returns-then-not-is_accepted
 unfolding sound_of
 returns-then-not-is_accepted c = simp (no c.before.is_accepted.ensures c.if-not-is_accepted.true-raw)
 
-pub returns-then-not-is_accepted : goal.returns
+pub returns : goal.returns
 unfolding sound_of
-returns-then-not-is_accepted c = simp (c.words_ok.ensures, yes c.before.before.is_accepted.ensures c.before.if-not-is_accepted.false-raw)
+returns c = simp (c.words_ok.ensures, yes c.before.before.is_accepted.ensures c.before.if-not-is_accepted.false-raw)

@@ -18,8 +18,8 @@ returns-then-b-eq10 c =
     let k = f.before.before.before.loop-i in
     going_ended k.invariant f.before.before.loop-i-test.true f.if-b-eq10.true e.line_end.ensures.0 e.line_end.ensures.1
 
-pub returns-then-b-eq10 : goal.returns
-returns-then-b-eq10 c = going_past c.before.loop-i.invariant c.loop-i-test.false
+pub returns : goal.returns
+returns c = going_past c.before.loop-i.invariant c.loop-i-test.false
 
 pub loop-i-preserved : goal.loop-i-preserved
 loop-i-preserved c =

@@ -10,5 +10,5 @@ unfolding field_ok is_inside
 returns c =
     let k = c.before.before in
     let s = k.before.before in
-    let b = from_bits s.args.f _ s.well-formed.0.1.1 in
+    let b = from_bits s.args.f _ s.well_formed.0.1.1 in
     simp (k.within.ensures, c.within-2.ensures, b.fine, b.angle)

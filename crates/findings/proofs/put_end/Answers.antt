@@ -30,9 +30,9 @@ returns-then-n-rest c =
     rw (le-ltb 40 n (omega (arith, s.requires.0, i.if-n-gt-SHOWN.false)), lt-ltb n (length r) (omega (arith, s.requires.0, c.if-n-rest.true)))
     (omega arith, written_none s.args.out-1.now s.args.at, omega arith)
 
-pub returns-then-n-gt-SHOWN : goal.returns
+pub returns : goal.returns
 unfolding end_text without_feed
-returns-then-n-gt-SHOWN c =
+returns c =
     let k = c.before.before in
     let e = k.put_text-2.ensures in
     let j = k.before.before.before in

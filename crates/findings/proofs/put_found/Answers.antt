@@ -40,9 +40,9 @@ returns-then-rest-gt0 c =
     let r = named p own in
     (r.0, r.1, omega (arith, a.2, b.2))
 
-pub returns-then-rest-gt0 : goal.returns
+pub returns : goal.returns
 unfolding found_text nothing
-returns-then-rest-gt0 c =
+returns c =
     let k = c.before.before in
     let e = k.put_text.ensures in
     let i = k.before.before.before in

@@ -13,9 +13,9 @@ returns-then-gain c =
     let e = k.put_text.ensures in
     rw k.before.before.before.if-gain.true (e.0, e.1, omega arith)
 
-pub returns-then-gain : goal.returns
+pub returns : goal.returns
 unfolding kind_text whole_kind
-returns-then-gain c =
+returns c =
     let k = c.before.before in
     let e = k.put_text-2.ensures in
     rw k.before.before.before.if-gain.false (e.0, e.1, omega arith)

@@ -26,8 +26,8 @@ returns-then-i-lt-WORDS c =
     let r = named (put e.0 e.1) (ap (range_text (entry_at s.args.i)) (sym (read_ok32 z g))) in
     rw (lt-ltb s.args.i word_count i.if-i-lt-WORDS.true) (r.0, r.1, e.2)
 
-pub returns-then-i-lt-WORDS : goal.returns
+pub returns : goal.returns
 unfolding out_text
-returns-then-i-lt-WORDS c =
+returns c =
     let s = c.before.before in
     rw (le-ltb s.args.i word_count c.if-i-lt-WORDS.false) (omega arith, written_none s.args.out-1.now s.args.at, omega arith)

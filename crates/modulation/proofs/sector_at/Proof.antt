@@ -26,37 +26,37 @@ returns : tie.Need-returns-in-1
 unfolding sector_at
 returns c =
     let k = c.before.before.before in
-    simp (c.sector_with.ensures, (z k.before).is, (y k.before).is, k.in_default.keys1)
+    simp (c.sector_with.ensures, (z k.before).is, (y k.before).is, k.in-1.is)
 
 returns-2 : tie.Need-returns-in-2
 unfolding sector_at
 returns-2 c =
     let k = c.before.before.before.before in
-    simp (c.sector_with-in-2.ensures, (y k.before).is, (stored w32 (less (x k.before)) tt).is, k.in_default.keys2)
+    simp (c.sector_with-in-2.ensures, (y k.before).is, (stored w32 (less (x k.before)) tt).is, k.in-2.is)
 
 returns-3 : tie.Need-returns-in-3
 unfolding sector_at
 returns-3 c =
     let k = c.before.before.before.before in
-    simp (c.sector_with-in-3.ensures, (stored w32 (less (z k.before)) tt).is, (x k.before).is, k.in_default.keys3)
+    simp (c.sector_with-in-3.ensures, (stored w32 (less (z k.before)) tt).is, (x k.before).is, k.in-3.is)
 
 returns-4 : tie.Need-returns-in-4
 unfolding sector_at
 returns-4 c =
     let k = c.before.before.before.before in
-    simp (c.sector_with-in-4.ensures, (stored w32 (less (x k.before)) tt).is, (z k.before).is, k.in_default.keys4)
+    simp (c.sector_with-in-4.ensures, (stored w32 (less (x k.before)) tt).is, (z k.before).is, k.in-4.is)
 
 returns-5 : tie.Need-returns-in-5
 unfolding sector_at
 returns-5 c =
     let k = c.before.before.before.before in
-    simp (c.sector_with-in-5.ensures, (x k.before).is, (stored w32 (less (y k.before)) tt).is, k.in_default.keys5)
+    simp (c.sector_with-in-5.ensures, (x k.before).is, (stored w32 (less (y k.before)) tt).is, k.in-5.is)
 
 returns-6 : tie.Need-returns-in-6
 unfolding sector_at
 returns-6 c =
     let k = c.before.before.before.before.before in
-    simp (c.sector_with-in-6.ensures, (stored w32 (less (y k.before)) tt).is, (stored w32 (less (z k.before)) tt).is, k.in_default.keys6)
+    simp (c.sector_with-in-6.ensures, (stored w32 (less (y k.before)) tt).is, (stored w32 (less (z k.before)) tt).is, k.in-6.is)
 
 -- and row 0, at 0 and past the table
 returns-7 : tie.Need-returns-in_default

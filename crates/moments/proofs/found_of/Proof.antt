@@ -17,7 +17,7 @@ returns : tie.Need-returns-then-within
 unfolding found_of
 returns c =
     let k = c.before.before.before in
-    let b = from_bits k.args.r _ k.well-formed.1.0.1.1 in
+    let b = from_bits k.args.r _ k.well_formed.1.0.1.1 in
     simp (asked c.before.before ∙ c.before.if-within.true, b.ia, b.ib, b.speed, b.a, b.b, b.c)
 
 returns-2 : tie.Need-returns

@@ -13,7 +13,7 @@ use Rattle.moments.proofs.kept.Tie as tie
 asked : (c : tie.After-within) → equal (pos 0) c.before.before.args.s.number ≡ c.within.result
 asked c =
     let k = c.before.before in
-    sym (c.within.ensures ∙ ap (equal (pos 0)) (from_bits k.args.s _ k.well-formed.1.1.1.0.1.1).number)
+    sym (c.within.ensures ∙ ap (equal (pos 0)) (from_bits k.args.s _ k.well_formed.1.1.1.0.1.1).number)
 
 returns : tie.Need-returns-then-within
 unfolding kept_of

@@ -22,10 +22,10 @@ returns c =
     let p = r.before in
     let k = p.before.before.before in
     let m = k.args.m in
-    let b = from_bits m _ k.well-formed.0.1.1 in
+    let b = from_bits m _ k.well_formed.0.1.1 in
     let place = p.row_place-p.ensures ∙ ap₃ row_place b.next b.real (to_z-of_z k.ranges.i) in
     let number : m32 p.row_place-p.result.number ≡ p.row_place-p.result.number = to_z-of_z (record { sfits = p.row_place-p.type_inv.1.1.0.1 }) in
     c.found_of.ensures
     ∙ ap₂ found_of number r.row_in-r.ensures
     ∙ ap (λ (q : Place). found_of q.number (row_in m q.at)) place
-    ∙ sym (moment_stands m (rings m _ k.well-formed.0.1.1) k.args.i)
+    ∙ sym (moment_stands m (rings m _ k.well_formed.0.1.1) k.args.i)

@@ -23,8 +23,8 @@ returns c =
     let q = c.before.before.before.before.before.before.before.before in
     let k = q.before.before.before in
     let s = q.spot_for-p.result in
-    let b = from_bits k.args.m _ k.well-formed.0.1.1 in
-    let r = of_row k.args.r _ k.well-formed.1.0.1.1 in
+    let b = from_bits k.args.m _ k.well_formed.0.1.1 in
+    let r = of_row k.args.r _ k.well_formed.1.0.1.1 in
     let next : m32 s.next ≡ s.next = to_z-of_z (record { sfits = q.spot_for-p.type_inv.1.1.1.0.1 }) in
     let real : m32 s.real ≡ s.real = to_z-of_z (record { sfits = q.spot_for-p.type_inv.1.1.1.1.0.1 }) in
     rw (next, real, q.spot_for-p.ensures ∙ ap₂ spot_of b.next b.real) (simp (r.ia, r.ib, r.speed, r.a, r.b, r.c))

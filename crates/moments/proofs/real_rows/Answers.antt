@@ -11,5 +11,5 @@ use Rattle.moments.proofs.real_rows.Goals as goal
 pub returns : goal.returns
 returns c =
     let k = c.before.before.before in
-    let b = from_bits k.args.m _ k.well-formed.0.1.1 in
+    let b = from_bits k.args.m _ k.well_formed.0.1.1 in
     (answer w32 c.count_in.type_inv).is ∙ c.count_in.ensures ∙ ap pos (ap₂ rows_in b.next b.real)

@@ -11,6 +11,6 @@ unfolding row_of
 returns c =
     let k = c.before in
     let s = k.args.s in
-    let g = k.well-formed.1.1.0.1.1 in
+    let g = k.well_formed.1.1.0.1.1 in
     let b = from_bits s _ g in
     simp (to_z-of_z k.ranges.ia, to_z-of_z k.ranges.ib, (of_drive s.drive _ g.0.1.1).shaft.speed, b.a, b.b, b.c)

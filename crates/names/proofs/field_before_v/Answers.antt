@@ -32,6 +32,6 @@ pub returns-then-i-lt6 : goal.returns-then-i-lt6
 unfolding field_of entries
 returns-then-i-lt6 c = c.gain-then-i-lt6.ensures ∙ at 5 c.before.before.before.before.before.before.before.args.i (omega arith)
 
-pub returns-then-i-lt1 : goal.returns
+pub returns : goal.returns
 unfolding field_of entries
-returns-then-i-lt1 c = c.gain-2.ensures ∙ at 6 c.before.before.before.before.before.before.before.args.i (omega arith)
+returns c = c.gain-2.ensures ∙ at 6 c.before.before.before.before.before.before.before.args.i (omega arith)

@@ -36,6 +36,6 @@ pub returns-then-i-lt14 : goal.returns-then-i-lt14
 unfolding field_of entries
 returns-then-i-lt14 c = c.whole-then-i-lt14.ensures ∙ at 13 c.before.before.before.before.before.before.before.before.args.i (omega arith)
 
-pub returns-then-i-lt8 : goal.returns
+pub returns : goal.returns
 unfolding field_of entries
-returns-then-i-lt8 c = c.whole-2.ensures ∙ at 14 c.before.before.before.before.before.before.before.before.args.i (omega arith)
+returns c = c.whole-2.ensures ∙ at 14 c.before.before.before.before.before.before.before.before.args.i (omega arith)

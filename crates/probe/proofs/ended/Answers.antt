@@ -13,5 +13,5 @@ returns-then-s c =
     let e = p.put_bad.ensures in
     rw (n.before.if-s.true, ← n.next.ensures) (e.0, e.1, e.2)
 
-pub returns-then-s : goal.returns
-returns-then-s c = rw c.if-s.false (refl, written_none c.before.before.args.out-1.now 0, omega arith)
+pub returns : goal.returns
+returns c = rw c.if-s.false (refl, written_none c.before.before.args.out-1.now 0, omega arith)

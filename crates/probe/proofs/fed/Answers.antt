@@ -17,7 +17,7 @@ pub loop-i-init : goal.loop-i-init
 loop-i-init c =
     let s = c.before.before.before.before in (
       upto_start is_call calls_after (as_fed s.args.s) s.args.chunk.now,
-      length_unmapped _ s.args.s.numbers-1 most s.well-formed.0.1.1.1.1.0.1.0.1,
+      length_unmapped _ s.args.s.numbers-1 most s.well_formed.0.1.1.1.1.0.1.0.1,
       omega arith,
       refl,
     )

@@ -13,4 +13,4 @@ pub returns : goal.returns
 returns c =
     let k = c.before.before.before in
     let t = k.args.s.step in
-    c.within.ensures ∙ ap (within (pos 0) (pos 0)) (from_bits t _ k.well-formed.0.1.1.0.1.1).number
+    c.within.ensures ∙ ap (within (pos 0) (pos 0)) (from_bits t _ k.well_formed.0.1.1.0.1.1).number

@@ -8,4 +8,4 @@ use Rattle.recorder.proofs.emptied.Goals as goal
 pub returns : goal.returns
 returns c =
     let k = c.before.before in
-    c.emptied_by.ensures ∙ ap (emptied_by k.args.m) (to_z-of_z (record { sfits = k.well-formed.1.0.1.1.1.0.1 }))
+    c.emptied_by.ensures ∙ ap (emptied_by k.args.m) (to_z-of_z (record { sfits = k.well_formed.1.0.1.1.1.0.1 }))

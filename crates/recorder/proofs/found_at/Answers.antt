@@ -11,7 +11,7 @@ found_of-requires c = search rules
 pub returns : goal.returns
 returns c =
     let k = c.before.before in
-    let n : m32 k.args.p.number ≡ k.args.p.number = to_z-of_z (record { sfits = k.well-formed.0.1.1.0.1 }) in
+    let n : m32 k.args.p.number ≡ k.args.p.number = to_z-of_z (record { sfits = k.well_formed.0.1.1.0.1 }) in
     simp (
       c.found_of.ensures,
       n,

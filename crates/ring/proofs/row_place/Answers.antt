@@ -19,8 +19,8 @@ overflow_cast-i c =
     let i = word c.before.ranges.i in
     unsigned i (not_less i (lit (pos 0)) c.if-i-lt0.false) tt
 
-pub returns-then-i-lt0 : goal.returns
-returns-then-i-lt0 c =
+pub returns : goal.returns
+returns c =
     let k = c.before.before in
     let i = word k.ranges.i in
     c.place_at.ensures ∙ ap₃ place_at (to_z-of_z k.ranges.next) (to_z-of_z k.ranges.real) (ap nat_abs i.is)

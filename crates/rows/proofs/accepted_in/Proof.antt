@@ -13,7 +13,7 @@ asked : (c : tie.After-within) → is_accepted c.before.before.args.s ≡ c.with
 unfolding is_accepted
 asked c =
     let s = c.before.before in
-    sym (c.within.ensures ∙ ap (within (pos 0) (pos 0)) (from_bits s.args.s _ s.well-formed.0.1.1).number)
+    sym (c.within.ensures ∙ ap (within (pos 0) (pos 0)) (from_bits s.args.s _ s.well_formed.0.1.1).number)
 
 returns : tie.Need-returns-then-within
 returns c = simp (asked c.before ∙ c.if-within.true)

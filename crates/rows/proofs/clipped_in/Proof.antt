@@ -14,7 +14,7 @@ asked : (c : tie.After-within) → is_clipped c.before.before.args.s ≡ (c.with
 unfolding is_accepted is_clipped
 asked c =
     let s = c.before.before in
-    let e = c.within.ensures ∙ ap (within (pos 0) (pos 0)) (from_bits s.args.s _ s.well-formed.0.1.1).number in
+    let e = c.within.ensures ∙ ap (within (pos 0) (pos 0)) (from_bits s.args.s _ s.well_formed.0.1.1).number in
     ap (λ (b : Bool). b && s.args.s.pulses.clipped) (sym e)
 
 returns : tie.Need-returns-then-within-s

@@ -13,7 +13,7 @@ unfolding four
 returns c =
     let k = c.before.before.before.before in
     let s = k.args.s in
-    let b = from_bits s _ k.well-formed.1.1.0.1.1 in
+    let b = from_bits s _ k.well_formed.1.1.0.1.1 in
     simp (b.a, b.b, b.c, b.number) (set_four s.pulses.a s.pulses.b s.pulses.c s.number k.args.out.now k.args.at k.requires)
 
 pub bounds-out-at-2 : goal.bounds-out-at-2

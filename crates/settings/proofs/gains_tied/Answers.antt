@@ -9,5 +9,5 @@ unfolding gains_tied
 returns c =
     let k = c.before.before.before.before in
     let s = k.before.before.before.before in
-    let b = from_bits s.args.s _ s.well-formed.0.1.1 in
+    let b = from_bits s.args.s _ s.well_formed.0.1.1 in
     simp (k.tied.ensures, c.tied-2.ensures, b.skp, b.skcor, b.ski, b.ckp, b.ckcor, b.cki)

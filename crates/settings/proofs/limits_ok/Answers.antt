@@ -9,5 +9,5 @@ unfolding limits_ok
 returns c =
     let k = c.before.before in
     let s = k.before.before in
-    let b = from_bits s.args.s _ s.well-formed.0.1.1 in
+    let b = from_bits s.args.s _ s.well_formed.0.1.1 in
     simp (k.within.ensures, c.within-2.ensures, b.v, b.q)

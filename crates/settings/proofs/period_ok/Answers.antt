@@ -8,4 +8,4 @@ pub returns : goal.returns
 unfolding period_ok
 returns c =
     let s = c.before.before in
-    simp (c.within.ensures, (from_bits s.args.s _ s.well-formed.0.1.1).t)
+    simp (c.within.ensures, (from_bits s.args.s _ s.well_formed.0.1.1).t)

@@ -13,7 +13,7 @@ returns c =
     let c2 = c3.before.before in
     let c1 = c2.before.before in
     let s = c1.before.before in
-    let b = from_bits s.args.s _ s.well-formed.0.1.1 in
+    let b = from_bits s.args.s _ s.well_formed.0.1.1 in
     simp (
       c1.within.ensures,
       c2.within-2.ensures,

@@ -14,4 +14,4 @@ unfolding measured_of
 returns c =
     let s = c.before.before in
     ap (λ (n : ℤ). record { count = s.args.s.count; seen = s.args.s.seen; sum = pos 0; steps = pos 0; speed = n })
-    ((answer w32 c.speed_of-speed.type_inv).is ∙ c.speed_of-speed.ensures ∙ ap₂ speed_of (from_bits s.args.s _ s.well-formed.0.1.1).sum (word s.ranges.kn).is)
+    ((answer w32 c.speed_of-speed.type_inv).is ∙ c.speed_of-speed.ensures ∙ ap₂ speed_of (from_bits s.args.s _ s.well_formed.0.1.1).sum (word s.ranges.kn).is)

@@ -10,7 +10,7 @@ use Rattle.shaft.proofs.shaft_ok.Statement.{statement}
 use Rattle.shaft.proofs.shaft_ok.Tie as tie
 
 back : (s : tie.Start) → FromBits s.args.s
-back s = from_bits s.args.s _ s.well-formed.0.1.1
+back s = from_bits s.args.s _ s.well_formed.0.1.1
 
 -- the movement that the steps allow
 most : (c : tie.After-times)

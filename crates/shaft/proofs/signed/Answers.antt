@@ -13,7 +13,7 @@ overflow_cast-result-else-m-lt32768 c = search rules
 
 -- a 16-bit number in a 32-bit local
 wide : (m : ℕ) → Fits w16 m → Reads (to_z w32 m) (pos m) 65535
-wide m f = local w32 {x = pos m} (omega (arith, f.ranges)) tt
+wide m f = local w32 {x = pos m} (omega (arith, f.fits)) tt
 
 less : (m : ℕ) → Fits w16 m → Reads (to_z w32 m -ℤ pos 65536) (pos m -ℤ pos 65536) 131071
 less m f = minus (wide m f) (lit (pos 65536))

@@ -13,4 +13,4 @@ pub returns : goal.returns
 unfolding is_thirtieth
 returns c =
     let s = c.before.before in
-    c.within.ensures ∙ ap (within (pos 29) (pos 29)) (from_bits s.args.s _ s.well-formed.0.1.1).steps
+    c.within.ensures ∙ ap (within (pos 29) (pos 29)) (from_bits s.args.s _ s.well_formed.0.1.1).steps

@@ -20,7 +20,7 @@ abbrev decreases-loop : tie.decreases-loop-i
 decreases-loop s n key i₀ i = n - i
 
 six : (s : tie.Start invariant-loop decreases-loop) → length s.args.key ≡ 6
-six s = s.well-formed.1.0.1.0.1
+six s = s.well_formed.1.0.1.0.1
 
 returns : tie.Need-returns-then-s-n invariant-loop decreases-loop
 returns c =

@@ -28,7 +28,7 @@ returns-then-n-s c =
     let e = entry_at a.i in
     c.line.ensures ∙ ap (line_of e) (ap (λ (n : ℕ). take n s) k.before.requires.1 ∙ before_take 10 s) ∙ first_with e s (omega arith)
 
-pub returns-then-n-s : goal.returns
-returns-then-n-s c =
+pub returns : goal.returns
+returns c =
     let k = c.before.before in
     first_without (entry_at k.args.i) k.args.s.now (omega (arith, k.requires.1, c.if-n-s.false))

@@ -22,7 +22,7 @@ abbrev decreases-loop : tie.decreases-loop-i
 decreases-loop out₀ at words place₀ i₀ out place i = line_count - i
 
 loop-holds : tie.Need-loop-i-init invariant-loop decreases-loop
-loop-holds c = writing_start c.before.args.words c.before.args.out-1.now c.before.args.at c.before.well-formed.0.1.0.1 c.before.requires
+loop-holds c = writing_start c.before.args.words c.before.args.out-1.now c.before.args.at c.before.well_formed.0.1.0.1 c.before.requires
 
 put-line-requires : tie.Need-put_line-place-requires invariant-loop decreases-loop
 put-line-requires c κs =

@@ -20,7 +20,7 @@ use Rattle.stages.proofs.advance.Statement.{statement}
 use Rattle.stages.proofs.advance.Tie as tie
 
 back : (s : tie.Start) → FromBits s.args.d
-back s = from_bits s.args.d _ s.well-formed.0.1.1
+back s = from_bits s.args.d _ s.well_formed.0.1.1
 
 is_sound : (s : tie.Start) → Sound s.args.d
 is_sound s = sound→ s.args.d s.requires.0

@@ -40,7 +40,7 @@ returns c =
     let g = j.before.before.before.before.before in
     let k = g.before in
     let s = k.before.before in
-    let b = from_bits s.args.d _ s.well-formed.0.1.1 in
+    let b = from_bits s.args.d _ s.well_formed.0.1.1 in
     c.with_command.ensures
     ∙ ap₂ (with_command s.args.d s.args.s) (ramped k)
     (j.steered-u.ensures ∙ ap₄ regulated b.integrals.speed (ap₂ ◌-ℤ◌ (reference k).is (speed s).is) g.speed_gains-g.ensures b.settings.q)
@@ -55,7 +55,7 @@ steered-requires c κs =
     let s = k.before.before in
     let d = s.args.d in
     let h = sound→ d s.requires.0 in
-    let b = from_bits d _ s.well-formed.0.1.1 in
+    let b = from_bits d _ s.well_formed.0.1.1 in
     let e = error_sized d.integrals.speed (ramped_by d s.args.s.speed).reference
     s.args.s.speed (size.speed_integral_size d h) (ramped_size d s.args.s.speed h) (le_trans s.requires.1 (leb→le fastest rotor_end tt)) in (
       record {

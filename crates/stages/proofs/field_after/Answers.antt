@@ -15,8 +15,8 @@ pub returns : goal.returns
 unfolding field_after
 returns c =
     let s = c.before.before.before.before.before.before.before.before in
-    let b = from_bits s.args.d _ s.well-formed.0.1.1 in
-    let r = rotor_told s.args.i _ s.well-formed.1.0.1.1 in
+    let b = from_bits s.args.d _ s.well_formed.0.1.1 in
+    let r = rotor_told s.args.i _ s.well_formed.1.0.1.1 in
     simp (c.followed.ensures, b.settings.kr, b.settings.kt, b.settings.kth, b.shaft.speed, r.d, r.q)
 
 pub followed-requires : goal.followed-requires

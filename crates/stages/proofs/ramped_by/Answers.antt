@@ -18,7 +18,7 @@ returns c =
     let k = c.before in
     let j = k.before.before in
     let s = j.before.before.before.before in
-    let b = from_bits s.args.d _ s.well-formed.0.1.1 in
+    let b = from_bits s.args.d _ s.well_formed.0.1.1 in
     ap₂ (λ (r f : ℤ). record { target = s.args.d.command.target; reference = r; torque = s.args.d.command.torque; flux = f })
     ((answer w32 j.ramped_to-reference.type_inv).is ∙ j.ramped_to-reference.ensures ∙ ap₃ ramped_to b.command.reference b.command.target b.settings.r)
     ((answer w32 k.weakened-flux.type_inv).is ∙ k.weakened-flux.ensures ∙ ap₂ weakened b.settings.f (word s.ranges.n).is)

@@ -27,7 +27,7 @@ returns c =
     let m = c.before in
     let k = m.before.before.before in
     let s = k.before.before in
-    let b = from_bits s.args.d _ s.well-formed.0.1.1 in
+    let b = from_bits s.args.d _ s.well_formed.0.1.1 in
     c.commanded.ensures
     ∙ ap (commanded s.args.d) (m.measured.ensures ∙ ap₂ measured (counted_is k.before) b.settings.kn)
     ∙ sym (if-thirtieth s.args.d s.args.count (sym k.thirtieth.ensures ∙ m.before.before.if-thirtieth.true))

@@ -59,7 +59,7 @@ returns c =
     let p = m.before.before.before.before in
     let u = p.before in
     let s = u.before.before in
-    let b = from_bits s.args.d _ s.well-formed.0.1.1 in
+    let b = from_bits s.args.d _ s.well_formed.0.1.1 in
     ap₃ (λ (d : Drive) (p : Pulses) (v : Stator). record { drive = d; number = pos 0; pulses = p; voltage = v })
     (c.with_field.ensures ∙ ap₂ (with_field s.args.d) u.before.field_after-f.ensures (ap (λ (v : Voltage). v.integrals) u.voltage_for-u.ensures))
     (m.modulate-pulses.ensures ∙ ap₃ modulated b.settings.t (alpha p).is (beta p).is)
@@ -80,7 +80,7 @@ modulate-requires : tie.Need-modulate-pulses-requires
 modulate-requires c κs =
     let p = c.before.before.before in
     let s = p.before.before.before in
-    let b = from_bits s.args.d _ s.well-formed.0.1.1 in
+    let b = from_bits s.args.d _ s.well_formed.0.1.1 in
     (subst Period (sym b.settings.t) (size.period s.args.d (is_sound s)), bound (alpha p) tt, bound (beta p) tt)
 
 pub rules_6_to_9_spec : {M : Type 1} → statement M

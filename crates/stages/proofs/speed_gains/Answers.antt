@@ -8,5 +8,5 @@ pub returns : goal.returns
 unfolding speed_gains
 returns c =
     let s = c.before in
-    let b = from_bits s.args.s _ s.well-formed.0.1.1 in
+    let b = from_bits s.args.s _ s.well_formed.0.1.1 in
     simp (b.skp, b.skcor, b.ski)

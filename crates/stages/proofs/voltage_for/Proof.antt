@@ -18,7 +18,7 @@ use Rattle.stages.proofs.voltage_for.Statement.{statement}
 use Rattle.stages.proofs.voltage_for.Tie as tie
 
 back : (s : tie.Start) → FromBits s.args.d
-back s = from_bits s.args.d _ s.well-formed.0.1.1
+back s = from_bits s.args.d _ s.well_formed.0.1.1
 
 is_sound : (s : tie.Start) → Sound s.args.d
 is_sound s = sound→ s.args.d s.requires.is_sound
@@ -30,7 +30,7 @@ d_is c =
     let g = c.before.before.before.before.before in
     let s = g.before in
     let b = back s in
-    let i = rotor_told s.args.i _ s.well-formed.1.0.1.1 in
+    let i = rotor_told s.args.i _ s.well_formed.1.0.1.1 in
     c.steered-u.ensures ∙ ap₄ regulated b.integrals-1.d (ap₂ ◌-ℤ◌ b.command.flux i.d) g.current_gains-g.ensures b.settings.v
 
 q_is : (c : tie.After-steered-w) → c.steered-w.result ≡ q_regulated
@@ -41,7 +41,7 @@ q_is c =
     let g = c.before.before.before.before.before.before.before.before.before.before in
     let s = g.before in
     let b = back s in
-    let i = rotor_told s.args.i _ s.well-formed.1.0.1.1 in
+    let i = rotor_told s.args.i _ s.well_formed.1.0.1.1 in
     c.steered-w.ensures ∙ ap₄ regulated b.integrals-1.q (ap₂ ◌-ℤ◌ b.command.torque i.q) g.current_gains-g.ensures b.settings.v
 
 returns : tie.Need-returns
@@ -65,7 +65,7 @@ steered-requires c κs =
     let d = s.args.d in
     let h = is_sound s in
     let b = back s in
-    let i = rotor_told s.args.i _ s.well-formed.1.0.1.1 in
+    let i = rotor_told s.args.i _ s.well_formed.1.0.1.1 in
     let e = error_sized d.integrals-1.d d.command.flux s.args.i.d (size.d_integral_size d h) (size.flux_reference_size d h) s.requires.d_size in (
       record {
         x_size = bound (local w32 {x = d.integrals-1.d} e.x_size tt) tt;
@@ -83,7 +83,7 @@ steered-requires-2 c κs =
     let d = s.args.d in
     let h = is_sound s in
     let b = back s in
-    let i = rotor_told s.args.i _ s.well-formed.1.0.1.1 in
+    let i = rotor_told s.args.i _ s.well_formed.1.0.1.1 in
     let e = error_sized d.integrals-1.q d.command.torque s.args.i.q (size.q_integral_size d h) (size.torque_size d h) s.requires.q_size in (
       record {
         x_size = bound (local w32 {x = d.integrals-1.q} e.x_size tt) tt;

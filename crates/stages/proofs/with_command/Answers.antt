@@ -8,5 +8,5 @@ pub returns : goal.returns
 unfolding with_command with_torque with_speed
 returns c =
     let s = c.before.before.before in
-    let b = from_bits s.args.u _ s.well-formed.1.1.1.0.1.1 in
+    let b = from_bits s.args.u _ s.well_formed.1.1.1.0.1.1 in
     simp (b.out, b.x)

@@ -18,8 +18,8 @@ returns-then-s c =
     let w = put_then p q (omega (arith, p.next, q.next, d.put_bad-place.ensures.2, e.put_totals.ensures.2, s.requires)) in
     rw (n.before.if-s.true, ← n.next.ensures) (w.next, w.wrote, omega (arith, d.put_bad-place.ensures.2, e.put_totals.ensures.2))
 
-pub returns-then-s : goal.returns
+pub returns : goal.returns
 unfolding closing_text
-returns-then-s c =
+returns c =
     let e = c.before.before in
     rw e.before.before.if-s.false (e.put_totals-2.ensures.0, e.put_totals-2.ensures.1, omega (arith, e.put_totals-2.ensures.2))

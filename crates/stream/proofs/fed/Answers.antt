@@ -15,7 +15,7 @@ use Rattle.stream.proofs.fed.Goals as goal
 pub loop-i-init : goal.loop-i-init
 loop-i-init c =
     let s = c.before.before.before.before.before in
-    let w = length_unmapped _ s.args.s.row-1 3 s.well-formed.0.1.1.1.1.0.1.0.1 in
+    let w = length_unmapped _ s.args.s.row-1 3 s.well_formed.0.1.1.1.1.0.1.0.1 in
     telling_start s.args.s s.args.chunk.now s.args.at s.args.out-1.now (sound→ s.args.s.tally-1.drive s.requires.0) w s.requires.1
 
 pub row_told-t-requires : goal.row_told-t-requires

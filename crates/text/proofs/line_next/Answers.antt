@@ -12,8 +12,8 @@ returns-then-b-eq32 c =
     let t = eq-eqb _ 32 k.before.before.if-b-eq32.true in
     (simp (t, k.line_end.ensures.0), simp (t, k.line_end.ensures.1))
 
-pub returns-then-b-eq32 : goal.returns
+pub returns : goal.returns
 unfolding line_next numbers_next
-returns-then-b-eq32 c =
+returns c =
     let t = ne_eqb _ 32 c.before.if-b-eq32.false in
     (simp (t, c.word_next.ensures), simp t)

@@ -32,8 +32,8 @@ loop-i-preserved c =
     let a = l.before.args in
     (omega arith, omega (arith, l.loop-i.invariant.1, ap length (before_more a.b a.s.now l.loop-i.i c.before.before.loop-i-test.true c.if-s-i.false)))
 
-pub returns-then-s-i : goal.returns
-returns-then-s-i c =
+pub returns : goal.returns
+returns c =
     let l = c.before in
     let a = l.before.args in
     omega (arith, l.loop-i.invariant.1, ap length (before_past a.b a.s.now l.loop-i.i c.loop-i-test.false))

@@ -39,8 +39,8 @@ ths-requires c =
     let d = c.before.before.before in
     digits_small d.before.before.before.before.before.args.s.now c.before.d-1.given.0.0 (sym d.digits-d.ensures ∙ c.before.d-1.given.1)
 
-pub returns-then-n-lt1 : goal.returns
-returns-then-n-lt1 c =
+pub returns : goal.returns
+returns c =
     let k = c.before.before in
     let d = k.before.before in
     let e = d.before in

@@ -54,14 +54,14 @@ returns-then-p-s c =
     (f.fraction-f.ensures ∙ ap fraction_of (behind_part 46 s k.find-p.result p))
     ∙ gain_with s (omega (arith, p, t.if-p-s.true))
 
-pub whole-w-requires : goal.whole-requires
-whole-w-requires c = search rules
+pub whole-requires : goal.whole-requires
+whole-requires c = search rules
 
 pub sum-requires-2 : goal.sum-requires-2
 sum-requires-2 c = rw c.whole.ensures (summands_none _)
 
-pub returns-then-p-s : goal.returns
-returns-then-p-s c =
+pub returns : goal.returns
+returns c =
     let w = c.before in
     let t = w.before in
     let k = t.before in

@@ -36,8 +36,8 @@ put_fraction-requires c = search rules
 pub shape_of-out : goal.shape_of-out
 shape_of-out c = search rules
 
-pub returns-then-f-eq0 : goal.returns
-returns-then-f-eq0 c =
+pub returns : goal.returns
+returns c =
     let d = c.before.before in
     let b = d.before.before.before.before in
     let e = b.before.before in

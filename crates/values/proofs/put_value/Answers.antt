@@ -26,8 +26,8 @@ put_count-requires c = search rules
 pub shape_of-out : goal.shape_of-out
 shape_of-out c = search rules
 
-pub returns-then-is_gain : goal.returns
+pub returns : goal.returns
 unfolding value_text
-returns-then-is_gain c =
+returns c =
     let k = c.before.before.put_count.ensures in
     rw c.before.before.before.before.if-is_gain.false (k.0, k.1, omega (arith, k.2))

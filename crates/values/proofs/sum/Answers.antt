@@ -38,9 +38,9 @@ overflow_add-result c =
     let p = w.before.before.requires in
     record { fits = omega (arith, p.false w.w-1.given.0.0 w.w-1.given.1, p.right f.f-1.given.0.0 f.f-1.given.1) }
 
-pub returns-in_default : goal.returns
+pub returns : goal.returns
 unfolding sum_of
-returns-in_default c =
+returns c =
     let f = c.before in
     let w = f.before.before.before in
     sym (ap₂ sum_of w.w-1.given.1 f.f-1.given.1)

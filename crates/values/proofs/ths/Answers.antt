@@ -28,8 +28,8 @@ returns-then-w-p-eq0 c =
     let v = k.before.args.v in
     ths_yes k.power-p.result v c.if-w-p-eq0.true ∙ ap (λ (p : ℕ). ths_of p (Is v)) k.power-p.ensures
 
-pub returns-then-w-p-eq0 : goal.returns
-returns-then-w-p-eq0 c =
+pub returns : goal.returns
+returns c =
     let k = c.before in
     let v = k.before.args.v in
     ths_no k.power-p.result v c.if-w-p-eq0.false ∙ ap (λ (p : ℕ). ths_of p (Is v)) k.power-p.ensures

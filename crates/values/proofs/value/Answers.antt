@@ -14,6 +14,6 @@ returns-then-gain_line c = simp (c.gain.ensures, c.before.if-gain_line.true)
 pub whole-requires : goal.whole-requires
 whole-requires c = search rules
 
-pub returns-then-gain_line : goal.returns
+pub returns : goal.returns
 unfolding number_of
-returns-then-gain_line c = simp (c.whole.ensures, c.before.if-gain_line.false)
+returns c = simp (c.whole.ensures, c.before.if-gain_line.false)

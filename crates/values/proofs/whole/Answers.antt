@@ -20,8 +20,8 @@ returns-then-s-eq48 c = let e = c.before.before in whole_zero e.before.before.ar
 pub digits-requires-2 : goal.digits-requires-2
 digits-requires-2 c = search rules
 
-pub returns-then-s-lt2 : goal.returns
-returns-then-s-lt2 c =
+pub returns : goal.returns
+returns c =
     let t = c.before in
     let e = t.before.before in
     c.digits-2.ensures ∙ whole_other e.before.before.args.s.now e.if-s-lt2.false t.if-s-eq48.false
