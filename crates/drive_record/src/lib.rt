@@ -73,6 +73,7 @@ pub fn words_ok(d: Drive) -> bool
 
 // Whether a record is one that a call may work on: number 14 is given where it is not. The words are looked at once the settings have passed, so
 // that fewer numbers are at hand at a time.
+#[tactic(auto, unfolding(crate::specs::Record::sound))]
 pub fn sound(d: Drive) -> bool
     ensures { result ≡ sound_of d }
 {
