@@ -2,6 +2,7 @@
 -- Assumes nothing.
 use mathlib.Core.Path.{◌≡◌}
 use mir.Facts.{to_z-of_z}
+use mir.Syntax.{w32}
 use denote.RattleType.{Valss}
 use denote.Struct.Struct.{AreAll}
 use denote.Struct.Declared.{fields}
@@ -19,8 +20,8 @@ pub from_bits : (x : Stepped) (vss : Valss (fields the_type)) → AreAll (fields
 from_bits x vss g =
     let p = g.1.1.0.1.1 in
     record {
-      number = to_z-of_z (record { sfits = g.1.0.1 });
-      a = to_z-of_z (record { sfits = p.0.1 });
-      b = to_z-of_z (record { sfits = p.1.0.1 });
-      c = to_z-of_z (record { sfits = p.1.1.0.1 });
+      number = to_z-of_z {w = w32} (record { sfits = g.1.0.1 });
+      a = to_z-of_z {w = w32} (record { sfits = p.0.1 });
+      b = to_z-of_z {w = w32} (record { sfits = p.1.0.1 });
+      c = to_z-of_z {w = w32} (record { sfits = p.1.1.0.1 });
     }

@@ -2,6 +2,7 @@
 -- Assumes nothing.
 use mathlib.Core.Path.{◌≡◌, ◌∙◌, sym, ap, ap₂}
 use mir.Facts.{to_z-of_z}
+use mir.Syntax.{w32}
 use Rattle.fixed.proofs.Equal.{ap₃}
 use Rattle.fixed.proofs.Reading.{m32}
 use Rattle.ring.specs.declared.Place.{Place}
@@ -24,7 +25,7 @@ returns c =
     let m = k.args.m in
     let b = from_bits m _ k.well_formed.0.1.1 in
     let place = p.row_place-p.ensures ∙ ap₃ row_place b.next b.real (to_z-of_z k.ranges.i) in
-    let number : m32 p.row_place-p.result.number ≡ p.row_place-p.result.number = to_z-of_z (record { sfits = p.row_place-p.type_inv.1.1.0.1 }) in
+    let number : m32 p.row_place-p.result.number ≡ p.row_place-p.result.number = to_z-of_z {w = w32} (record { sfits = p.row_place-p.type_inv.1.1.0.1 }) in
     c.found_of.ensures
     ∙ ap₂ found_of number r.row_in-r.ensures
     ∙ ap (λ (q : Place). found_of q.number (row_in m q.at)) place

@@ -1,6 +1,7 @@
 -- `recorder::found_at` meets its contract. Assumes nothing.
 use mathlib.Core.Path.{◌≡◌}
 use mir.Facts.{to_z-of_z}
+use mir.Syntax.{w32}
 use Rattle.fixed.proofs.Reading.{m32}
 use borrow.Author.Rules.{rules}
 use Rattle.recorder.proofs.found_at.Goals as goal
@@ -11,7 +12,7 @@ found_of-requires c = search rules
 pub returns : goal.returns
 returns c =
     let k = c.before.before in
-    let n : m32 k.args.p.number ≡ k.args.p.number = to_z-of_z (record { sfits = k.well_formed.0.1.1.0.1 }) in
+    let n : m32 k.args.p.number ≡ k.args.p.number = to_z-of_z {w = w32} (record { sfits = k.well_formed.0.1.1.0.1 }) in
     simp (
       c.found_of.ensures,
       n,

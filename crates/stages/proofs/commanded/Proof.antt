@@ -38,7 +38,7 @@ unfolding commanded speed_regulated
 returns c =
     let j = c.before in
     let g = j.before.before.before.before.before in
-    let k = g.before in
+    let k = g.before.before in
     let s = k.before.before in
     let b = from_bits s.args.d _ s.well_formed.0.1.1 in
     c.with_command.ensures
@@ -51,7 +51,7 @@ ramped-by-requires c κs = let s = c.before in (s.requires.0, bound (speed s) tt
 steered-requires : tie.Need-steered-u-requires
 steered-requires c κs =
     let g = c.before.before.before.before in
-    let k = g.before in
+    let k = g.before.before in
     let s = k.before.before in
     let d = s.args.d in
     let h = sound→ d s.requires.0 in

@@ -29,24 +29,24 @@ is_sound s = sound→ s.args.d s.requires.0.is_sound
 abbrev volts : tie.Start → Stator
 volts s = inverse_park (voltage_for s.args.d s.args.i).asked s.args.sin s.args.cos
 
-volts_are : (c : tie.After-inverse_park-v) → c.inverse_park-v.result ≡ volts c.before.before.before
+volts_are : (c : tie.After-inverse_park-v) → c.inverse_park-v.result ≡ volts c.before.before.before.before
 volts_are c =
-    let s = c.before.before.before in
+    let s = c.before.before.before.before in
     c.inverse_park-v.ensures
-    ∙ ap₃ inverse_park (ap (λ (v : Voltage). v.asked) c.before.voltage_for-u.ensures)
+    ∙ ap₃ inverse_park (ap (λ (v : Voltage). v.asked) c.before.before.voltage_for-u.ensures)
     (sized s.ranges.sin s.requires.1.sin_size).is (sized s.ranges.cos s.requires.1.cos_size).is
 
-alpha : (c : tie.After-inverse_park-v) → Reads (m32 c.inverse_park-v.result.alpha) (volts c.before.before.before).alpha 8192
+alpha : (c : tie.After-inverse_park-v) → Reads (m32 c.inverse_park-v.result.alpha) (volts c.before.before.before.before).alpha 8192
 alpha c =
-    let s = c.before.before.before in
+    let s = c.before.before.before.before in
     let h = asked_size s.args.d s.args.i (is_sound s) in
     stored w32 (result (ap (λ (v : Stator). v.alpha) (volts_are c))
     (back_alpha_size 4096 4096 s.args.sin s.args.cos s.requires.1.sin_size s.requires.1.cos_size
     (voltage_for s.args.d s.args.i).asked h.0 h.1)) tt
 
-beta : (c : tie.After-inverse_park-v) → Reads (m32 c.inverse_park-v.result.beta) (volts c.before.before.before).beta 8192
+beta : (c : tie.After-inverse_park-v) → Reads (m32 c.inverse_park-v.result.beta) (volts c.before.before.before.before).beta 8192
 beta c =
-    let s = c.before.before.before in
+    let s = c.before.before.before.before in
     let h = asked_size s.args.d s.args.i (is_sound s) in
     stored w32 (result (ap (λ (v : Stator). v.beta) (volts_are c))
     (back_beta_size 4096 4096 s.args.sin s.args.cos s.requires.1.sin_size s.requires.1.cos_size
@@ -55,9 +55,9 @@ beta c =
 returns : tie.Need-returns
 unfolding rules_6_to_9 outcome with_field
 returns c =
-    let m = c.before in
+    let m = c.before.before in
     let p = m.before.before.before.before in
-    let u = p.before in
+    let u = p.before.before in
     let s = u.before.before in
     let b = from_bits s.args.d _ s.well_formed.0.1.1 in
     ap₃ (λ (d : Drive) (p : Pulses) (v : Stator). record { drive = d; number = pos 0; pulses = p; voltage = v })
@@ -67,7 +67,7 @@ returns c =
 
 inverse-park-requires : tie.Need-inverse_park-v-requires
 inverse-park-requires c κs =
-    let s = c.before.before in
+    let s = c.before.before.before in
     let h = asked_size s.args.d s.args.i (is_sound s) in
     rw c.voltage_for-u.ensures (record {
       a_size = le_trans h.0 (leb→le _ _ tt);
@@ -79,7 +79,7 @@ inverse-park-requires c κs =
 modulate-requires : tie.Need-modulate-pulses-requires
 modulate-requires c κs =
     let p = c.before.before.before in
-    let s = p.before.before.before in
+    let s = p.before.before.before.before in
     let b = from_bits s.args.d _ s.well_formed.0.1.1 in
     (subst Period (sym b.settings.t) (size.period s.args.d (is_sound s)), bound (alpha p) tt, bound (beta p) tt)
 
