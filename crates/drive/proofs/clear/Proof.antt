@@ -25,7 +25,7 @@ returns-3 : tie.Need-returns
 unfolding cleared broken
 returns-3 c =
     let k = c.before in
-    let e = k.before in
+    let e = k.before.before in
     simp (c.answer-2.ensures, k.fresh.ensures, is_sound e.before.before, not-false e.before.before.before.before.args.d.tripped e.if-not-d.false)
 
 pub clear_spec : {M : Type 1} → statement M

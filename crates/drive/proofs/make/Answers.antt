@@ -1,21 +1,15 @@
 -- `drive::make` meets its contract.
 -- Assumes nothing.
-use borrow.Author.Rules.{rules}
-use mathlib.Core.Path.{sym, ◌∙◌, ap}
-use mir.Syntax.{w32}
-use Rattle.fixed.proofs.Reading.{answer}
+use Rattle.std.proofs.Common.{rules, ◌≡◌, sym, ◌∙◌, ap, to_z, of_z, w32}
 use Rattle.drive.specs.declared.Made.TheVariants.{Ready, Refused}
 use Rattle.drive.proofs.CallLaws.{made_ready, made_refused}
 use Rattle.drive.proofs.make.Goals as goal
 
 pub returns-in-Accepted : goal.returns-in-Accepted
-returns-in-Accepted c =
-    let g = c.before.before.c-1.given in
-    let k = c.before.before.before.before in
-    ap Ready c.fresh.ensures ∙ sym (made_ready _ _ (sym k.check-c.ensures ∙ g.1))
+returns-in-Accepted c = ap Ready c.fresh.ensures ∙ sym (made_ready _ _ (sym c.in-Accepted.ensures))
 
 pub returns-in-Refused : goal.returns-in-Refused
 returns-in-Refused c =
-    let g = c.before.c-in-Refused-1.given in
-    let k = c.before.before.before in
-    ap Refused (answer w32 {x = g.0.0} c.known_told-in-Refused-1.given.0.1).is ∙ sym (made_refused _ _ (sym k.check-c.ensures ∙ g.1))
+    let n = c.in-Refused.n in
+    let e : to_z w32 (of_z w32 n) ≡ n = search rules in
+    ap Refused e ∙ sym (made_refused _ _ (sym c.in-Refused.ensures))
