@@ -1,4 +1,0 @@
-pub mod Words
-pub mod PlainCalls
-pub mod InPlace
-pub mod Structs
