@@ -1,4 +1,0 @@
-pub mod Structs
-pub mod Beside
-pub mod Looking
-pub mod Elem
