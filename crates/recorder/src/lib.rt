@@ -52,6 +52,7 @@ fn accepted(s: Noted) -> bool
 }
 
 // One row stored in place: six words and two counts. A refused step stores nothing.
+#[tactic(auto, using(ring::proofs::Places::spot_inside))]
 fn keep(m: &mut Moments, s: Noted)
     ensures { m.new ≡ stored m.old s }
 {
@@ -170,6 +171,7 @@ fn found_at(p: ring::Place, ia: i32, ib: i32, speed: i32, a: i32, b: i32, c: i32
 
 // The row i of the record in place, oldest first; 19 and zeros past the real rows. Its six words are read, wherever it stands; where there is no such
 // row they are those at place 0, and are not used.
+#[tactic(auto, using(ring::proofs::Places::place_inside))]
 #[unsafe(no_mangle)]
 pub extern "C" fn mirgalhet_recorded_row(m: &Moments, i: i32) -> Found
     ensures { result ≡ moment_at m.now i }
