@@ -78,8 +78,7 @@ pub fn started(d: Drive, s: Settings) -> Answered
 }
 
 // The record changed in place by one step.
-#[unsafe(no_mangle)]
-pub extern "C" fn mirgalhet_step(d: &mut Drive, ia: i32, ib: i32, count: i32) -> Output
+pub fn mirgalhet_step(d: &mut Drive, ia: i32, ib: i32, count: i32) -> Output
     ensures { (result ≡ output_of (stepped d.old ia ib count)) × (d.new ≡ (stepped d.old ia ib count).drive) }
 {
     let s = drive::step(*d, ia, ib, count);
@@ -88,8 +87,7 @@ pub extern "C" fn mirgalhet_step(d: &mut Drive, ia: i32, ib: i32, count: i32) ->
 }
 
 // A new target for the speed reference of the record in place.
-#[unsafe(no_mangle)]
-pub extern "C" fn mirgalhet_target(d: &mut Drive, wanted: i32) -> i32
+pub fn mirgalhet_target(d: &mut Drive, wanted: i32) -> i32
     ensures { (result ≡ (targeted d.old wanted).number) × (d.new ≡ (targeted d.old wanted).drive) }
 {
     let t = drive::target(*d, wanted);
@@ -98,8 +96,7 @@ pub extern "C" fn mirgalhet_target(d: &mut Drive, wanted: i32) -> i32
 }
 
 // After a trip: the record in place becomes the fresh drive of its settings.
-#[unsafe(no_mangle)]
-pub extern "C" fn mirgalhet_clear(d: &mut Drive) -> i32
+pub fn mirgalhet_clear(d: &mut Drive) -> i32
     ensures { (result ≡ (cleared d.old).number) × (d.new ≡ (cleared d.old).drive) }
 {
     let c = drive::clear(*d);
@@ -108,8 +105,7 @@ pub extern "C" fn mirgalhet_clear(d: &mut Drive) -> i32
 }
 
 // A fresh drive with these settings in the place of the record; where they are refused the record stays as it was.
-#[unsafe(no_mangle)]
-pub extern "C" fn mirgalhet_start(d: &mut Drive, settings: Settings) -> i32
+pub fn mirgalhet_start(d: &mut Drive, settings: Settings) -> i32
     ensures { (result ≡ made_number (made settings)) × (d.new ≡ drive_or d.old (made settings)) }
 {
     let a = started(*d, settings);
@@ -118,8 +114,7 @@ pub extern "C" fn mirgalhet_start(d: &mut Drive, settings: Settings) -> i32
 }
 
 // The flux of a record's word `fine`, for whoever reads the record: C's own division rounds the other way below 0.
-#[unsafe(no_mangle)]
-pub extern "C" fn mirgalhet_flux(fine: i32) -> i32
+pub fn mirgalhet_flux(fine: i32) -> i32
     ensures { result ≡ flux_of fine }
 {
     field::flux_of(fine)

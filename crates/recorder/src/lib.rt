@@ -71,8 +71,7 @@ fn keep(m: &mut Moments, s: Noted)
 }
 
 // The drive record changed in place by one step, and the row of it stored beside.
-#[unsafe(no_mangle)]
-pub extern "C" fn mirgalhet_recorded_step(
+pub fn mirgalhet_recorded_step(
     d: &mut Drive,
     m: &mut Moments,
     ia: i32,
@@ -118,8 +117,7 @@ fn wipe(m: &mut Moments, a: Answered) -> i32
 }
 
 // After a trip: the drive record becomes the fresh drive of its settings, and the record beside it is emptied.
-#[unsafe(no_mangle)]
-pub extern "C" fn mirgalhet_recorded_clear(d: &mut Drive, m: &mut Moments) -> i32
+pub fn mirgalhet_recorded_clear(d: &mut Drive, m: &mut Moments) -> i32
     ensures { (result ≡ (cleared d.old).number)
         × (d.new ≡ (cleared d.old).drive)
         × (m.new ≡ emptied_by m.old (cleared d.old).number) }
@@ -131,12 +129,7 @@ pub extern "C" fn mirgalhet_recorded_clear(d: &mut Drive, m: &mut Moments) -> i3
 }
 
 // A fresh drive with these settings in the drive's place, and an empty record beside it; where they are refused both stay as they were.
-#[unsafe(no_mangle)]
-pub extern "C" fn mirgalhet_recorded_start(
-    d: &mut Drive,
-    m: &mut Moments,
-    settings: Settings,
-) -> i32
+pub fn mirgalhet_recorded_start(d: &mut Drive, m: &mut Moments, settings: Settings) -> i32
     ensures { (result ≡ made_number (made settings))
         × (d.new ≡ drive_or d.old (made settings))
         × (m.new ≡ emptied_by m.old (made_number (made settings))) }
@@ -148,8 +141,7 @@ pub extern "C" fn mirgalhet_recorded_start(
 }
 
 // How many rows of the record in place are real.
-#[unsafe(no_mangle)]
-pub extern "C" fn mirgalhet_recorded_count(m: &Moments) -> i32
+pub fn mirgalhet_recorded_count(m: &Moments) -> i32
     ensures { result ≡ pos (real_rows m.now) }
 {
     ring::count_in(m.next, m.real)
@@ -172,8 +164,7 @@ fn found_at(p: ring::Place, ia: i32, ib: i32, speed: i32, a: i32, b: i32, c: i32
 // The row i of the record in place, oldest first; 19 and zeros past the real rows. Its six words are read, wherever it stands; where there is no such
 // row they are those at place 0, and are not used.
 #[tactic(auto, using(ring::proofs::Places::place_inside))]
-#[unsafe(no_mangle)]
-pub extern "C" fn mirgalhet_recorded_row(m: &Moments, i: i32) -> Found
+pub fn mirgalhet_recorded_row(m: &Moments, i: i32) -> Found
     ensures { result ≡ moment_at m.now i }
 {
     let p = ring::row_place(m.next, m.real, i);

@@ -14,8 +14,7 @@ unfolding noted stored kept
 returns c =
     let d = c.args.d.now in
     let e : c.take_note-s.result ≡ noted d c.args.ia c.args.ib c.args.count =
-    c.take_note-s.ensures ∙ ap₃ (noted d) (word c.ranges.ia).is (word c.ranges.ib).is (word c.ranges.count).is in
-    (
+    c.take_note-s.ensures ∙ ap₃ (noted d) (word c.ranges.ia).is (word c.ranges.ib).is (word c.ranges.count).is in (
       c.noted_output.ensures ∙ ap (λ (s : Noted). output_of s.step) e,
       c.noted_drive.ensures ∙ ap (λ (s : Noted). s.step.drive) e,
       c.keep.ensures ∙ ap (stored c.args.m.now) e,
