@@ -20,29 +20,16 @@ returns-then-s-n-eq48 c = fraction_zero c.before.before.before.before.args.s.now
 pub digits-d-requires : goal.digits-d-requires
 digits-d-requires c = search rules
 
-pub enum_known-d : goal.enum_known-d
-enum_known-d c = search rules
-
-pub enum_told-1 : goal.enum_told-1
-enum_told-1 c = search rules
-
 pub returns-in_default : goal.returns-in_default
 unfolding ths_of
 returns-in_default c =
-    let d = c.before.before in
-    let e = d.before in
-    let s = e.before.before.before.before.args.s.now in
-    ap (ths_of (10 ^ length s)) (sym (sym d.digits-d.ensures ∙ c.enum_told-1.given.1)) ∙ fraction_other s e.if-s-n-eq48.false
+    let s = c.args.s.now in
+    ap (ths_of (10 ^ length s)) (sym (sym c.digits-d.ensures ∙ c.in_default.is)) ∙ fraction_other s c.if-s-n-eq48.false
 
 pub ths-requires : goal.ths-requires
-ths-requires c =
-    let d = c.before.before.before in
-    digits_small d.before.before.before.before.before.args.s.now c.before.d-1.given.0.0 (sym d.digits-d.ensures ∙ c.before.d-1.given.1)
+ths-requires c = digits_small c.args.s.now c.in-Is.v (sym c.digits-d.ensures ∙ c.in-Is.is)
 
 pub returns : goal.returns
 returns c =
-    let k = c.before.before in
-    let d = k.before.before in
-    let e = d.before in
-    let s = e.before.before.before.before.args.s.now in
-    c.ths.ensures ∙ ap (ths_of (10 ^ length s)) (sym (sym d.digits-d.ensures ∙ k.d-1.given.1)) ∙ fraction_other s e.if-s-n-eq48.false
+    let s = c.args.s.now in
+    c.ths.ensures ∙ ap (ths_of (10 ^ length s)) (sym (sym c.digits-d.ensures ∙ c.in-Is.is)) ∙ fraction_other s c.if-s-n-eq48.false
