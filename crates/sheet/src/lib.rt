@@ -103,6 +103,7 @@ fn word(v: u64) -> i32
 }
 
 // The lines of a text, one by one, up to the first that is faulty; behind the last nothing may stand.
+#[tactic(auto, using(crate::proofs::Walking::walking_over, crate::proofs::Walking::walking_end))]
 pub fn lines(text: &[u8]) -> Found
     ensures { result ≡ lines_of text.now }
 {

@@ -108,13 +108,16 @@ pub ths_no : (p v : ℕ) → (v * 4096 % p ≡ 0 → ⊥) → Wrong ≡ ths_of p
 unfolding ths_of
 ths_no p v e = rw (ne_eqb (v * 4096 % p) 0 e) refl
 
-pub fraction_none : (s : List ℕ) → length s < 1 → Wrong ≡ fraction_of s
+pub fraction_wrong : (s : List ℕ) → digits_of 12 s ≡ Wrong → Wrong ≡ fraction_of s
 unfolding fraction_of ths_of
-fraction_none s h = rw (sym (too_few s 12 h)) (by (zero_behind s))
+fraction_wrong s e = rw e (by (zero_behind s))
   where
     by : (b : Bool) → Wrong ≡ cond b Wrong Wrong
     by true = refl
     by false = refl
+
+pub fraction_none : (s : List ℕ) → length s < 1 → Wrong ≡ fraction_of s
+fraction_none s h = fraction_wrong s (sym (too_few s 12 h))
 
 pub fraction_zero : (s : List ℕ) → get_or s (length s - 1) 0 ≡ 48 → Wrong ≡ fraction_of s
 unfolding fraction_of zero_behind

@@ -71,6 +71,7 @@ fn digits(s: &[u8], n: usize) -> Number
 }
 
 // A whole number: one to five digits, no zero before another digit.
+#[tactic(auto, unfolding(crate::specs::Value::whole_of, crate::specs::Value::zero_in_front))]
 fn whole(s: &[u8]) -> Number
     ensures { result ≡ whole_of s.now }
 {
@@ -98,6 +99,7 @@ fn power(n: usize) -> u64
 }
 
 // v/10^n as 4096ths, if that is a whole number of them.
+#[tactic(auto, unfolding(crate::specs::Value::ths_of))]
 fn ths(v: u64, n: usize) -> Number
     requires { (v < 10 ^ 12) × (n ≤ 12) }
     ensures { result ≡ ths_of (10 ^ n) (Number.Is v) }
@@ -111,6 +113,7 @@ fn ths(v: u64, n: usize) -> Number
 }
 
 // What stands behind a point: one to twelve digits, the last of them no zero, that make a whole number of 4096ths.
+#[tactic(auto, using(crate::proofs::CodeLaws::fraction_none, crate::proofs::CodeLaws::fraction_zero, crate::proofs::CodeLaws::fraction_other, crate::proofs::CodeLaws::digits_small))]
 fn fraction(s: &[u8]) -> Number
     ensures { result ≡ fraction_of s.now }
 {

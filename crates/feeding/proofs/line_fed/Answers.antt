@@ -16,10 +16,13 @@ returns-then-b-eq10 c =
     let e = c.before in
     let f = e.before.before in
     let k = f.before.before.before.loop-i in
-    going_ended k.invariant f.before.before.loop-i-test.true f.if-b-eq10.true e.line_end.ensures.0 e.line_end.ensures.1
+    let w = going_ended k.invariant f.before.before.loop-i-test.true f.if-b-eq10.true e.line_end.ensures.0 e.line_end.ensures.1 in
+    record { chunk_value = w.0; place_in_bounds = w.1 }
 
 pub returns : goal.returns
-returns c = going_past c.before.loop-i.invariant c.loop-i-test.false
+returns c =
+    let w = going_past c.before.loop-i.invariant c.loop-i-test.false in
+    record { chunk_value = w.0; place_in_bounds = w.1 }
 
 pub loop-i-preserved : goal.loop-i-preserved
 loop-i-preserved c =

@@ -16,11 +16,7 @@ use Rattle.findings.proofs.put_accepted.Goals as goal
 pub returns : goal.returns
 unfolding accepted_text accepted sheet_text
 returns c =
-    let l = c.before.before in
-    let t = l.before.before.before.before in
-    let w = t.before.before.before in
-    let s = w.before.before in
-    let e = l.put_lines.ensures in
-    let j = put_then (put t.put_text-a.ensures.0 t.put_text-a.ensures.1) (put e.0 e.1) (omega (arith, s.requires, e.0, e.2)) in
-    let r = named j (ap (λ (zs : List ℤ). accepted ++ lines_text entries zs) (sym w.words_of-words.ensures)) in
-    (r.0, r.1, omega (arith, t.put_text-a.ensures.0, e.2))
+    let e = c.put_lines.ensures in
+    let j = put_then (put c.put_text-a.ensures.0 c.put_text-a.ensures.1) (put e.0 e.1) (omega (arith, c.requires, e.0, e.2)) in
+    let r = named j (ap (λ (zs : List ℤ). accepted ++ lines_text entries zs) (sym c.words_of-words.ensures)) in
+    (r.0, r.1, omega (arith, c.put_text-a.ensures.0, e.2))

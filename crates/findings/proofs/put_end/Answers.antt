@@ -13,31 +13,22 @@ use Rattle.findings.proofs.put_end.Goals as goal
 pub returns-then-n-gt-SHOWN : goal.returns-then-n-gt-SHOWN
 unfolding end_text and_more
 returns-then-n-gt-SHOWN c =
-    let k = c.before.before in
-    let e = k.put_text.ensures in
-    let i = k.before.before.before in
-    let s = i.before.before.before in
-    let n = length (before 10 s.args.rest.now) in
-    rw (lt-ltb 40 n (omega (arith, s.requires.0, i.if-n-gt-SHOWN.true))) (e.0, e.1, omega arith)
+    let e = c.put_text.ensures in
+    let n = length (before 10 c.args.rest.now) in
+    rw (lt-ltb 40 n (omega (arith, c.requires.0, c.if-n-gt-SHOWN.true))) (e.0, e.1, omega arith)
 
 pub returns-then-n-rest : goal.returns-then-n-rest
 unfolding end_text
 returns-then-n-rest c =
-    let i = c.before in
-    let s = i.before.before.before in
-    let r = s.args.rest.now in
+    let r = c.args.rest.now in
     let n = length (before 10 r) in
-    rw (le-ltb 40 n (omega (arith, s.requires.0, i.if-n-gt-SHOWN.false)), lt-ltb n (length r) (omega (arith, s.requires.0, c.if-n-rest.true)))
-    (omega arith, written_none s.args.out-1.now s.args.at, omega arith)
+    rw (le-ltb 40 n (omega (arith, c.requires.0, c.if-n-gt-SHOWN.false)), lt-ltb n (length r) (omega (arith, c.requires.0, c.if-n-rest.true)))
+    (omega arith, written_none c.args.out.now c.args.at, omega arith)
 
 pub returns : goal.returns
 unfolding end_text without_feed
 returns c =
-    let k = c.before.before in
-    let e = k.put_text-2.ensures in
-    let j = k.before.before.before in
-    let i = j.before in
-    let s = i.before.before.before in
-    let r = s.args.rest.now in
+    let e = c.put_text-2.ensures in
+    let r = c.args.rest.now in
     let n = length (before 10 r) in
-    rw (le-ltb 40 n (omega (arith, s.requires.0, i.if-n-gt-SHOWN.false)), le-ltb n (length r) (omega (arith, s.requires.0, j.if-n-rest.false))) (e.0, e.1, omega arith)
+    rw (le-ltb 40 n (omega (arith, c.requires.0, c.if-n-gt-SHOWN.false)), le-ltb n (length r) (omega (arith, c.requires.0, c.if-n-rest.false))) (e.0, e.1, omega arith)

@@ -20,23 +20,18 @@ use Rattle.findings.proofs.put_ends.Goals as goal
 pub returns : goal.returns
 unfolding ends_text to
 returns c =
-    let w = c.before.before in
-    let t = w.before.before.before.before.before in
-    let n = t.before.before.before.before.before in
-    let f = n.before.before.before in
-    let s = f.before.before in
-    let h = s.requires.1 in
-    let m = n.put_word-a.ensures in
-    let v = w.put_word.ensures in
+    let h = c.requires.1 in
+    let m = c.put_word-a.ensures in
+    let v = c.put_word.ensures in
     let i = put m.0 m.1 in
-    let j = put_then i (put t.put_text-b.ensures.0 t.put_text-b.ensures.1) (omega (arith, h, m.0, m.2)) in
+    let j = put_then i (put c.put_text-b.ensures.0 c.put_text-b.ensures.1) (omega (arith, h, m.0, m.2)) in
     let k = put_then j (put v.0 v.1) (simp length-append (omega (arith, h, m.0, m.2, v.0, v.2))) in
-    let g = n.before.struct_told-1.given in
-    let g2 = w.before.struct_told-2-1.given in
-    let e = names f.field_at-f.ensures in
-    let x = f.field_at-f.result in
+    let g = c.struct_told-1.given in
+    let g2 = c.struct_told-2-1.given in
+    let e = names c.field_at-f.ensures in
+    let x = c.field_at-f.result in
     let lo = ap nat_abs (read_ok32 x.lo g.1.1.1.0.1 ∙ e.lo) in
     let hi = ap nat_abs (read_ok32 x.hi g2.1.1.1.1.0.1 ∙ e.hi) in
-    let a = (entry_at s.args.i).gain in
+    let a = (entry_at c.args.i).gain in
     let r = named k (ap₂ (λ (p q : ℕ). (value_text a p ++ to) ++ value_text a q) (sym lo) (sym hi)) in
-    (r.0, r.1, omega (arith, m.2, t.put_text-b.ensures.0, v.2))
+    (r.0, r.1, omega (arith, m.2, c.put_text-b.ensures.0, v.2))

@@ -18,32 +18,25 @@ use Rattle.findings.proofs.put_found.Goals as goal
 
 pub slice_bounds-put_quoted-end : goal.slice_bounds-put_quoted-end
 slice_bounds-put_quoted-end c =
-    let f = c.before in
-    let rest = f.before.before.before.before.args.rest.now in
-    sym (length-take-le f.find-n.result rest (omega (arith, f.find-n.ensures, before_most 10 rest)))
+    let rest = c.args.rest.now in
+    sym (length-take-le c.find-n.result rest (omega (arith, c.find-n.ensures, before_most 10 rest)))
 
 pub returns-then-rest-gt0 : goal.returns-then-rest-gt0
 unfolding found_text
 returns-then-rest-gt0 c =
-    let e = c.before.before in
-    let q = e.before.before.before.before in
-    let f = q.before.before.before in
-    let s = f.before.before.before.before in
-    let rest = s.args.rest.now in
-    let a = q.put_quoted-a.ensures in
-    let b = e.put_end.ensures in
-    let n = f.find-n.result in
-    let p = put_then (put a.0 a.1) (put b.0 b.1) (omega (arith, s.requires, a.0, a.2, b.0, b.2)) in
+    let rest = c.args.rest.now in
+    let a = c.put_quoted-a.ensures in
+    let b = c.put_end.ensures in
+    let n = c.find-n.result in
+    let p = put_then (put a.0 a.1) (put b.0 b.1) (omega (arith, c.requires, a.0, a.2, b.0, b.2)) in
     let own : found_text rest ≡ quoted (take n rest) ++ end_text rest =
-    rw (lt-ltb 0 (length rest) f.before.if-rest-gt0.true)
-    (ap (λ (l : List ℕ). quoted l ++ end_text rest) (sym (ap (λ (m : ℕ). take m rest) f.find-n.ensures ∙ before_take 10 rest))) in
+    rw (lt-ltb 0 (length rest) c.if-rest-gt0.true)
+    (ap (λ (l : List ℕ). quoted l ++ end_text rest) (sym (ap (λ (m : ℕ). take m rest) c.find-n.ensures ∙ before_take 10 rest))) in
     let r = named p own in
     (r.0, r.1, omega (arith, a.2, b.2))
 
 pub returns : goal.returns
 unfolding found_text nothing
 returns c =
-    let k = c.before.before in
-    let e = k.put_text.ensures in
-    let i = k.before.before.before in
-    rw (le-ltb 0 (length i.before.before.before.args.rest.now) i.if-rest-gt0.false) (e.0, e.1, omega arith)
+    let e = c.put_text.ensures in
+    rw (le-ltb 0 (length c.args.rest.now) c.if-rest-gt0.false) (e.0, e.1, omega arith)

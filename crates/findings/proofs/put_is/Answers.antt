@@ -17,15 +17,11 @@ use Rattle.findings.proofs.put_is.Goals as goal
 pub returns : goal.returns
 unfolding is_text is
 returns c =
-    let w = c.before.before in
-    let t = w.before.before.before.before in
-    let n = t.before.before.before.before.before in
-    let s = n.before.before.before in
-    let h = s.requires.1 in
-    let m = n.put_name-a.ensures in
-    let v = w.put_word.ensures in
+    let h = c.requires.1 in
+    let m = c.put_name-a.ensures in
+    let v = c.put_word.ensures in
     let i = put m.0 m.1 in
-    let j = put_then i (put t.put_text-b.ensures.0 t.put_text-b.ensures.1) (omega (arith, h, m.0, m.2)) in
+    let j = put_then i (put c.put_text-b.ensures.0 c.put_text-b.ensures.1) (omega (arith, h, m.0, m.2)) in
     let k = put_then j (put v.0 v.1) (simp length-append (omega (arith, h, m.0, m.2, v.0, v.2))) in
-    let r = named k (ap (λ (x : ℕ). is_text (entry_at s.args.i) x) (ap nat_abs (sym (to_z-of_z s.ranges.w)))) in
-    (r.0, r.1, omega (arith, m.2, t.put_text-b.ensures.0, v.2))
+    let r = named k (ap (λ (x : ℕ). is_text (entry_at c.args.i) x) (ap nat_abs (sym (to_z-of_z c.ranges.w)))) in
+    (r.0, r.1, omega (arith, m.2, c.put_text-b.ensures.0, v.2))

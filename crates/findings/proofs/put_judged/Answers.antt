@@ -14,28 +14,22 @@ use Rattle.findings.proofs.put_judged.Goals as goal
 pub returns-in-Accepted : goal.returns-in-Accepted
 unfolding judged_text
 returns-in-Accepted c =
-    let p = c.before.before in
-    let q = p.before.before in
-    let g = q.before.a-1.given in
-    let k = q.before.before.before in
-    let s = k.before.before.args.s in
-    let h = checked_accepted s g.0.0 (sym k.check.ensures ∙ g.1) in
-    let e = p.put_accepted.ensures in
-    let own : judged_text s ≡ accepted_text g.0.0 = rw h.0 (ap accepted_text h.1) in
+    let s = c.args.s in
+    let a = c.in-Accepted.a in
+    let h = checked_accepted s a (sym c.check.ensures ∙ c.in-Accepted.is) in
+    let e = c.put_accepted.ensures in
+    let own : judged_text s ≡ accepted_text a = rw h.0 (ap accepted_text h.1) in
     let r = named (put e.0 e.1) own in
     (r.0, r.1, e.2)
 
 pub returns-in-Refused : goal.returns-in-Refused
 unfolding judged_text
 returns-in-Refused c =
-    let p = c.before.before in
-    let q = p.before.before in
-    let g = q.before.n-1.given in
-    let k = q.before.before.before in
-    let s = k.before.before.args.s in
-    let h = checked_refused s g.0.0 (sym k.check.ensures ∙ g.1) in
-    let e = p.Put-refused.ensures in
-    let z = (answer w32 {x = g.0.0} q.known_told-in-Refused-1.given.0.1).is ∙ h.1 in
-    let own : judged_text s ≡ refused_text s (m32 g.0.0) = rw h.0 (ap (refused_text s) (sym z)) in
+    let s = c.args.s in
+    let n = c.in-Refused.n in
+    let h = checked_refused s n (sym c.check.ensures ∙ c.in-Refused.is) in
+    let e = c.put_refused.ensures in
+    let z = (answer w32 {x = c.in-Refused.n} c.in-Refused.known_told-in-Refused-1-own.given.0.1).is ∙ h.1 in
+    let own : judged_text s ≡ refused_text s (m32 n) = rw h.0 (ap (refused_text s) (sym z)) in
     let r = named (put e.0 e.1) own in
     (r.0, r.1, omega (arith, e.2))

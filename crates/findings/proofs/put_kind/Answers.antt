@@ -9,13 +9,11 @@ use Rattle.findings.proofs.put_kind.Goals as goal
 pub returns-then-gain : goal.returns-then-gain
 unfolding kind_text gain_kind
 returns-then-gain c =
-    let k = c.before.before in
-    let e = k.put_text.ensures in
-    rw k.before.before.before.if-gain.true (e.0, e.1, omega arith)
+    let e = c.put_text.ensures in
+    rw c.if-gain.true (e.0, e.1, omega arith)
 
 pub returns : goal.returns
 unfolding kind_text whole_kind
 returns c =
-    let k = c.before.before in
-    let e = k.put_text-2.ensures in
-    rw k.before.before.before.if-gain.false (e.0, e.1, omega arith)
+    let e = c.put_text-2.ensures in
+    rw c.if-gain.false (e.0, e.1, omega arith)

@@ -17,17 +17,13 @@ use Rattle.findings.proofs.put_out.Goals as goal
 pub returns-then-i-lt-WORDS : goal.returns-then-i-lt-WORDS
 unfolding out_text
 returns-then-i-lt-WORDS c =
-    let p = c.before.before in
-    let i = p.before.before.before in
-    let s = i.before.before in
-    let e = p.put_range.ensures in
-    let z = get_or s.args.words s.args.i (pos 0) in
-    let g = p.before.before.put_range-arg-1.given in
-    let r = named (put e.0 e.1) (ap (range_text (entry_at s.args.i)) (sym (read_ok32 z g))) in
-    rw (lt-ltb s.args.i word_count i.if-i-lt-WORDS.true) (r.0, r.1, e.2)
+    let e = c.put_range.ensures in
+    let z = get_or c.args.words c.args.i (pos 0) in
+    let g = c.put_range-arg-1.given in
+    let r = named (put e.0 e.1) (ap (range_text (entry_at c.args.i)) (sym (read_ok32 z g))) in
+    rw (lt-ltb c.args.i word_count c.if-i-lt-WORDS.true) (r.0, r.1, e.2)
 
 pub returns : goal.returns
 unfolding out_text
 returns c =
-    let s = c.before.before in
-    rw (le-ltb s.args.i word_count c.if-i-lt-WORDS.false) (omega arith, written_none s.args.out-1.now s.args.at, omega arith)
+    rw (le-ltb c.args.i word_count c.if-i-lt-WORDS.false) (omega arith, written_none c.args.out.now c.args.at, omega arith)

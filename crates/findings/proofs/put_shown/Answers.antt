@@ -13,21 +13,20 @@ use Rattle.findings.proofs.put_shown.Goals as goal
 
 pub loop-i-init : goal.loop-i-init
 loop-i-init c =
-    let s = c.before.before in
-    record { low = omega arith; room = omega (arith, shown_length s.args.line.now, s.requires); long = refl; wrote = written_none _ _ }
+    record { low = omega arith; room = omega (arith, shown_length c.args.line.now, c.requires); long = refl; wrote = written_none _ _ }
 
 pub bounds-line-i : goal.bounds-line-i
 bounds-line-i c = omega arith
 
 pub overflow_add-out : goal.overflow_add-out
 overflow_add-out c =
-    let l = c.before.before.before.loop-i in
-    omega (arith, l.invariant.room, shown_length c.before.before.before.before.before.before.args.line.now)
+    let l = c.loop-i in
+    omega (arith, l.invariant.room, shown_length c.args.line.now)
 
 pub bounds-out-at : goal.bounds-out-at
 bounds-out-at c =
-    let l = c.before.before.before.loop-i in
-    omega (arith, l.invariant.room, l.invariant.long, shown_length c.before.before.before.before.before.before.args.line.now)
+    let l = c.loop-i in
+    omega (arith, l.invariant.room, l.invariant.long, shown_length c.args.line.now)
 
 pub overflow_add-i : goal.overflow_add-i
 overflow_add-i c = omega arith
@@ -37,25 +36,23 @@ loop-i-smaller c = omega arith
 
 pub loop-i-preserved : goal.loop-i-preserved
 loop-i-preserved c =
-    let h = c.before.before in
-    let l = h.before in
-    let a = l.before.before.before.args in
+    let a = c.args in
     let line = a.line.now in
-    let i = l.loop-i.i in
-    let e = c.shown_byte.ensures ∙ sym (shown_get line i h.loop-i-test.true) in
-    rw e (copied_more l.loop-i.invariant (omega (arith, h.loop-i-test.true, shown_length line)))
+    let i = c.loop-i.i in
+    let e = c.shown_byte.ensures ∙ sym (shown_get line i c.loop-i-test.true) in
+    rw e (copied_more c.loop-i.invariant (omega (arith, c.loop-i-test.true, shown_length line)))
 
 pub overflow_add-result : goal.overflow_add-result
 overflow_add-result c =
-    let l = c.before.loop-i in
-    omega (arith, l.invariant.room, l.invariant.low, shown_length c.before.before.before.before.args.line.now)
+    let l = c.loop-i in
+    omega (arith, l.invariant.room, l.invariant.low, shown_length c.args.line.now)
 
 pub shape_of-out : goal.shape_of-out
-shape_of-out c = c.before.loop-i.invariant.long
+shape_of-out c = c.loop-i.invariant.long
 
 pub returns : goal.returns
 returns c =
-    let l = c.before.loop-i in
-    let n = shown_length c.before.before.before.before.args.line.now in
-    let h : length (shown c.before.before.before.before.args.line.now) ≤ l.i = omega (arith, n, c.loop-i-test.false) in
+    let l = c.loop-i in
+    let n = shown_length c.args.line.now in
+    let h : length (shown c.args.line.now) ≤ l.i = omega (arith, n, c.loop-i-test.false) in
     (omega (arith, h, l.invariant.low), rw (take_all _ _ h) at l.invariant.wrote)

@@ -17,18 +17,14 @@ use Rattle.findings.proofs.put_untied.Goals as goal
 pub returns : goal.returns
 unfolding untied_text times_text must_be
 returns c =
-    let w = c.before.before in
-    let t = w.before.before.before.before in
-    let n = t.before.before.before.before.before in
-    let s = n.before.before.before.before in
-    let h = s.requires.1 in
-    let m = n.put_is-a.ensures in
-    let v = w.put_product.ensures in
+    let h = c.requires.1 in
+    let m = c.put_is-a.ensures in
+    let v = c.put_product.ensures in
     let i = put m.0 m.1 in
-    let j = put_then i (put t.put_text-b.ensures.0 t.put_text-b.ensures.1) (omega (arith, h, m.0, m.2)) in
+    let j = put_then i (put c.put_text-b.ensures.0 c.put_text-b.ensures.1) (omega (arith, h, m.0, m.2)) in
     let k = put_then j (put v.0 v.1) (simp length-append (omega (arith, h, m.0, m.2, v.0, v.2))) in
-    let x = s.args.k in
-    let z = get_or s.args.words (x + 2) (pos 0) in
-    let g = n.before.before.put_is-arg-1.given in
+    let x = c.args.k in
+    let z = get_or c.args.words (x + 2) (pos 0) in
+    let g = c.put_is-arg-1.given in
     let r = named k (ap (times_text (entry_at (x + 2)) (entry_at x) (entry_at (x + 1))) (sym (read_ok32 z g))) in
-    (r.0, r.1, omega (arith, m.2, t.put_text-b.ensures.0, v.2))
+    (r.0, r.1, omega (arith, m.2, c.put_text-b.ensures.0, v.2))

@@ -12,10 +12,6 @@ use Rattle.findings.proofs.put_word.Goals as goal
 
 pub returns : goal.returns
 returns c =
-    let p = c.before.before in
-    let z = p.before.before in
-    let f = z.before in
-    let s = f.before.before in
-    let e = p.put_value.ensures in
-    let r = named (put e.0 e.1) (ap₂ value_text (sym (stands f.field_at-f.ensures).gain) (sym (z.size.ensures ∙ ap nat_abs (to_z-of_z s.ranges.w)))) in
+    let e = c.put_value.ensures in
+    let r = named (put e.0 e.1) (ap₂ value_text (sym (stands c.field_at-f.ensures).gain) (sym (c.size.ensures ∙ ap nat_abs (to_z-of_z c.ranges.w)))) in
     (r.0, r.1, e.2)

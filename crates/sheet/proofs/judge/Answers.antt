@@ -1,6 +1,5 @@
 -- `sheet::judge` meets its contract.
 -- Assumes nothing.
-use borrow.Author.Rules.{rules}
 use mathlib.Core.Path.{ap, sym, ◌∙◌}
 use mir.Syntax.{w32}
 use Rattle.fixed.proofs.Reading.{answer}
@@ -11,16 +10,12 @@ use Rattle.sheet.proofs.judge.Goals as goal
 
 pub returns-in-Accepted : goal.returns-in-Accepted
 returns-in-Accepted c =
-    let g = c.before.a-1.given in
-    let k = c.before.before.before in
-    let s = k.before.args.s in
-    let h = checked_accepted s g.0.0 (sym k.check.ensures ∙ g.1) in
+    let s = c.args.s in
+    let h = checked_accepted s c.in-Accepted.a (sym c.check.ensures ∙ c.in-Accepted.is) in
     ap Read (sym h.1) ∙ judged_good s h.0
 
 pub returns-in-Refused : goal.returns-in-Refused
 returns-in-Refused c =
-    let g = c.before.n-1.given in
-    let k = c.before.before.before in
-    let s = k.before.args.s in
-    let h = checked_refused s g.0.0 (sym k.check.ensures ∙ g.1) in
-    ap Refused ((answer w32 {x = g.0.0} c.known_told-in-Refused-1.given.0.1).is ∙ h.1) ∙ judged_bad s h.0
+    let s = c.args.s in
+    let h = checked_refused s c.in-Refused.n (sym c.check.ensures ∙ c.in-Refused.is) in
+    ap Refused ((answer w32 {x = c.in-Refused.n} c.in-Refused.known_told-in-Refused-1-own.given.0.1).is ∙ h.1) ∙ judged_bad s h.0

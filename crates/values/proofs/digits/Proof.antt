@@ -4,7 +4,7 @@ use mathlib.Core.Path.{◌≡◌, sym, ◌∙◌}
 use mathlib.Core.Bool.{true}
 use Prim.Native.Nat.{◌-◌, ◌≤◌}
 use native.Mathlib.Omega.{arith}
-use borrow.Author.Tests.{leb-true, not-true, not-false}
+use borrow.Author.Tests.{leb-true}
 use lib.Dec.{leb}
 use lib.ListN.{length, get_or}
 use Rattle.fixed.proofs.HeldLaws.{and_left, and_right}
@@ -41,14 +41,14 @@ returns-3 : tie.Need-returns-then-not-is_digit invariant-loop decreases-loop
 returns-3 c =
     let k = c.before in
     let l = k.before.before.before in
-    reading_wrong l.loop-i.invariant k.before.before.loop-i-test.true (sym k.is_digit.ensures ∙ not-true _ c.if-not-is_digit.true)
+    reading_wrong l.loop-i.invariant k.before.before.loop-i-test.true (sym k.is_digit.ensures ∙ c.if-not-is_digit.true)
 
 -- the byte is a digit
 abbrev head : tie.Else-not-is_digit invariant-loop decreases-loop → tie.At-loop-i invariant-loop decreases-loop
 head c = c.before.before.before.before
 
 digit : (c : tie.Else-not-is_digit invariant-loop decreases-loop) → is_digit (get_or (head c).before.before.before.before.args.s.now (head c).loop-i.i 0) ≡ true
-digit c = sym c.before.is_digit.ensures ∙ not-false _ c.if-not-is_digit.false
+digit c = sym c.before.is_digit.ensures ∙ c.if-not-is_digit.false
 
 low : (c : tie.Else-not-is_digit invariant-loop decreases-loop) → 48 ≤ get_or (head c).before.before.before.before.args.s.now (head c).loop-i.i 0
 low c = leb-true 48 _ (and_left _ _ (digit c))

@@ -29,7 +29,7 @@ fits : (c : tie.After-put-place invariant-loop decreases-loop) → SFits w32 (ge
 fits c = record { sfits = c.before.before.put-arg-1.given }
 
 first : (c : tie.After-put-place invariant-loop decreases-loop) →
-    Put (start c).args.out-1.now (start c).args.at (text_of (get_or (start c).args.numbers.now 0 (pos 0))) c.put-place.new.1.0 c.put-place.result
+    Put (start c).args.out.now (start c).args.at (text_of (get_or (start c).args.numbers.now 0 (pos 0))) c.put-place.new.out c.put-place.result
 first c = let w = rw (read32 (get_or (start c).args.numbers.now 0 (pos 0)) (fits c)) at c.put-place.ensures in put w.0 w.1
 
 loop-holds : tie.Need-loop-i-init invariant-loop decreases-loop
