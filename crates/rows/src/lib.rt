@@ -124,7 +124,8 @@ pub fn run(d: Drive, samples: &[i32], out: &mut [i32]) -> Ran
     let Checked::Accepted(_) = settings::check(d.settings) else {
         return no_rows(d, 14);
     };
-    if !drive_record::words_ok(d) {
+    let broken = !drive_record::words_ok(d);
+    if broken {
         return no_rows(d, 14);
     }
     if !rows_fit(samples.len(), out.len()) {

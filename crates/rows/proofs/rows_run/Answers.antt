@@ -31,18 +31,18 @@ pub loop-i-preserved : goal.loop-i-preserved
 loop-i-preserved c =
     let r = c.before.before.before.before in
     let k = r.before.before in
-    more k.before.before.loop-i.invariant k.Row-step.result
-    r.put_row.new.0 c.before.before.accepted_in-accepted.result c.before.clipped_in-clipped.result k.before.loop-i-test.true
-    k.Row-step.ensures r.put_row.ensures r.put_row.auto.0 c.before.before.accepted_in-accepted.ensures c.before.clipped_in-clipped.ensures
+    more k.before.before.loop-i.invariant k.row_step-s.result
+    r.put_row.new.out c.before.before.accepted_in-accepted.result c.before.clipped_in-clipped.result k.before.loop-i-test.true
+    k.row_step-s.ensures r.put_row.ensures r.put_row.auto.out c.before.before.accepted_in-accepted.ensures c.before.clipped_in-clipped.ensures
 
 pub row_step-s-requires : goal.row_step-s-requires
-row_step-s-requires c = (sound← c.before.loop-i.cur-1 c.before.loop-i.invariant.is_sound, omega arith)
+row_step-s-requires c = (sound← c.before.loop-i.cur c.before.loop-i.invariant.is_sound, omega arith)
 
 pub overflow_add-accepted : goal.overflow_add-accepted
-overflow_add-accepted c = omega (arith, one_most (is_accepted c.before.before.before.before.Row-step.result))
+overflow_add-accepted c = omega (arith, one_most (is_accepted c.before.before.before.before.row_step-s.result))
 
 pub overflow_add-clipped : goal.overflow_add-clipped
-overflow_add-clipped c = omega (arith, one_most (is_clipped c.before.before.before.before.before.Row-step.result))
+overflow_add-clipped c = omega (arith, one_most (is_clipped c.before.before.before.before.before.row_step-s.result))
 
 pub shape_of-out : goal.shape_of-out
 shape_of-out c = c.before.loop-i.invariant.long
