@@ -268,8 +268,7 @@ fn writing_of(w: Wrote) -> Writing
 }
 
 // A sheet is read from bytes that C lends.
-#[unsafe(no_mangle)]
-pub extern "C" fn mirgalhet_read_sheet(text: &[u8]) -> Reading
+pub fn mirgalhet_read_sheet(text: &[u8]) -> Reading
     ensures { result ≡ reading_of (read_sheet text.now) }
 {
     let o = read(text);
@@ -277,8 +276,7 @@ pub extern "C" fn mirgalhet_read_sheet(text: &[u8]) -> Reading
 }
 
 // A sheet is written into a buffer that C lends.
-#[unsafe(no_mangle)]
-pub extern "C" fn mirgalhet_write_sheet(s: Settings, out: &mut [u8]) -> Writing
+pub fn mirgalhet_write_sheet(s: Settings, out: &mut [u8]) -> Writing
     ensures { (result ≡ writing_of (wrote s (length out.old))) × (out.new ≡ sheet_in s out.old) }
 {
     let w = write(s, out);
