@@ -1,10 +1,8 @@
 -- `feeding::line_fed` meets its contract. The measure is how many bytes are left.
 -- Assumes nothing.
 use mathlib.Core.Path.{refl}
-use Prim.Native.Nat.{◌-◌}
 use native.Mathlib.Omega.{arith}
-use lib.ListN.{length}
-use Rattle.feeding.proofs.Parts.{Going, going_on, going_ended, going_past}
+use Rattle.feeding.proofs.Parts.{going_on, going_ended, going_past}
 use Rattle.feeding.proofs.line_fed.Goals as goal
 
 pub loop-i-init : goal.loop-i-init

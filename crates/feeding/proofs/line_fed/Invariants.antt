@@ -1,10 +1,8 @@
 -- `feeding::line_fed` meets its contract. The measure is how many bytes are left.
 -- Assumes nothing.
-use mathlib.Core.Path.{refl}
 use Prim.Native.Nat.{◌-◌}
-use native.Mathlib.Omega.{arith}
 use lib.ListN.{length}
-use Rattle.feeding.proofs.Parts.{Going, going_on, going_ended, going_past}
+use Rattle.feeding.proofs.Parts.{Going}
 use Rattle.feeding.proofs.line_fed.Given as goal
 
 abbrev pub invariant-loop-i : goal.invariant-loop-i

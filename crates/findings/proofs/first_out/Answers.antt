@@ -9,9 +9,8 @@ use Rattle.fixed.specs.Fixed.{is_in, within}
 use Rattle.fixed.proofs.Reading.{m32, read_ok32}
 use Rattle.names.specs.declared.Field.{Field}
 use Rattle.names.specs.Names.{field_of}
-use Rattle.settings.specs.Words.{Entry, entries, no_entry, entry_at, size as word_count}
+use Rattle.settings.specs.Words.{Entry, entries, no_entry, entry_at}
 use Rattle.sheet.proofs.SheetLaws.{count_entries}
-use Rattle.findings.specs.Findings.{first_out}
 use Rattle.findings.proofs.Laws.{names, within_as, first_past, first_here, first_more}
 use Rattle.findings.proofs.first_out.Goals as goal
 

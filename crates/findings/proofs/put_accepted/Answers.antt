@@ -1,6 +1,5 @@
 -- `findings::put_accepted` meets its contract.
 -- Assumes nothing.
-use borrow.Author.Rules.{rules}
 use mathlib.Core.Path.{ap, sym}
 use mathlib.Core.List.{List, ◌++◌}
 use native.Mathlib.Omega.{arith}

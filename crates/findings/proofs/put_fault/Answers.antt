@@ -1,6 +1,5 @@
 -- `findings::put_fault` meets its contract.
 -- Assumes nothing.
-use borrow.Author.Rules.{rules}
 use native.Mathlib.Omega.{arith}
 use lib.ListN.{length-append}
 use Rattle.writing.proofs.TextLaws.{put, put_then}

@@ -1,6 +1,5 @@
 -- `findings::put_judged` meets its contract.
 -- Assumes nothing.
-use borrow.Author.Rules.{rules}
 use mathlib.Core.Path.{◌≡◌, ap, sym, ◌∙◌}
 use native.Mathlib.Omega.{arith}
 use mir.Syntax.{w32}

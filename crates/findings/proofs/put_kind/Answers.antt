@@ -1,6 +1,5 @@
 -- `findings::put_kind` meets its contract.
 -- Assumes nothing.
-use borrow.Author.Rules.{rules}
 use native.Mathlib.Omega.{arith}
 use Rattle.findings.specs.Phrases.{gain_kind, whole_kind}
 use Rattle.findings.specs.Findings.{kind_text}

@@ -2,7 +2,7 @@
 -- Assumes nothing.
 use mathlib.Core.Path.{◌≡◌, ap, sym, ◌∙◌}
 use mathlib.Core.List.{List}
-use Prim.Native.Nat.{ℕ, ◌+◌, ◌-◌}
+use Prim.Native.Nat.{ℕ, ◌-◌}
 use native.Mathlib.Omega.{arith}
 use lib.ListN.{length, take, drop}
 use mir.Syntax.{w32}
@@ -12,7 +12,7 @@ use Rattle.values.specs.Value.{before}
 use Rattle.values.proofs.CodeLaws.{rest_part}
 use Rattle.settings.specs.Words.{entry_at}
 use Rattle.sheet.specs.Sheet.{first_of}
-use Rattle.sheet.proofs.Walking.{Walking, walking_start, walking_inside, walking_more, walking_wrong, word_small}
+use Rattle.sheet.proofs.Walking.{walking_start, walking_inside, walking_more, walking_wrong, word_small}
 use Rattle.sheet.proofs.lines.Goals as goal
 
 -- the first line of the rest, as the code takes the rest

@@ -1,6 +1,5 @@
 -- `sheet::no_settings` meets its contract.
 -- Assumes nothing.
-use borrow.Author.Rules.{rules}
 use Rattle.settings.specs.Words.{settings_of}
 use Rattle.sheet.specs.Calls.{no_settings}
 use Rattle.sheet.proofs.no_settings.Goals as goal

@@ -11,7 +11,7 @@ use Rattle.values.proofs.Putting.{named, value_length}
 use Rattle.settings.specs.Words.{size as line_count, entry_at}
 use Rattle.names.specs.declared.Field.{Field}
 use Rattle.names.specs.Names.{field_of}
-use Rattle.sheet.proofs.CodeLaws.{Stands, stands, line_as, key_short}
+use Rattle.sheet.proofs.CodeLaws.{stands, line_as, key_short}
 use Rattle.sheet.proofs.put_line.Goals as goal
 
 short : (f : Field) (i : ℕ) → f ≡ field_of (entry_at i) → i < line_count → length (take f.size f.key) ≤ 6

@@ -10,7 +10,7 @@ use lib.ListN.{length, get_or}
 use Rattle.settings.specs.Words.{entry_at}
 use Rattle.writing.specs.Decimal.{written}
 use Rattle.sheet.specs.Sheet.{line_text}
-use Rattle.sheet.proofs.Putting.{Writing, writing_start, writing_more, writing_end}
+use Rattle.sheet.proofs.Putting.{writing_start, writing_more, writing_end}
 use Rattle.sheet.proofs.put_lines.Goals as goal
 
 pub loop-i-init : goal.loop-i-init

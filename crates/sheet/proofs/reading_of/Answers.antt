@@ -1,7 +1,7 @@
 -- `sheet::reading_of` meets its contract.
 -- Assumes nothing.
 use mathlib.Core.Path.{refl, ap, ap₂, sym, ◌∙◌}
-use Prim.Native.Nat.{◌≤◌, ◌^◌}
+use Prim.Native.Nat.{◌^◌}
 use native.Mathlib.Omega.{arith}
 use borrow.Author.Tests.{lt-ltb}
 use lib.IntN.{ℤ, pos}

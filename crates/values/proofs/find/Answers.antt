@@ -1,10 +1,8 @@
 -- `values::find` meets its contract. The measure is how many bytes are left.
 -- Assumes nothing.
-use mathlib.Core.Path.{◌≡◌, ap}
-use Prim.Native.Nat.{◌+◌, ◌-◌, ◌≤◌}
+use mathlib.Core.Path.{ap}
 use native.Mathlib.Omega.{arith}
-use lib.ListN.{length, drop}
-use Rattle.values.specs.Value.{before}
+use lib.ListN.{length}
 use Rattle.values.proofs.CodeLaws.{before_past, before_here, before_more}
 use Rattle.values.proofs.find.Goals as goal
 

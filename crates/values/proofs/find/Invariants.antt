@@ -1,11 +1,9 @@
 -- `values::find` meets its contract. The measure is how many bytes are left.
 -- Assumes nothing.
-use mathlib.Core.Path.{◌≡◌, ap}
+use mathlib.Core.Path.{◌≡◌}
 use Prim.Native.Nat.{◌+◌, ◌-◌, ◌≤◌}
-use native.Mathlib.Omega.{arith}
 use lib.ListN.{length, drop}
 use Rattle.values.specs.Value.{before}
-use Rattle.values.proofs.CodeLaws.{before_past, before_here, before_more}
 use Rattle.values.proofs.find.Given as goal
 
 abbrev pub invariant-loop-i : goal.invariant-loop-i

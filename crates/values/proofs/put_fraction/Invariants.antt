@@ -1,8 +1,7 @@
 -- `values::put_fraction` meets its contract. The measure is how many digits there is room for.
 -- Assumes nothing.
 use Prim.Native.Nat.{◌+◌, ◌-◌}
-use native.Mathlib.Omega.{arith}
-use Rattle.values.proofs.Putting.{Dividing, dividing_start, dividing_room, dividing_more, dividing_end}
+use Rattle.values.proofs.Putting.{Dividing}
 use Rattle.values.proofs.put_fraction.Given as goal
 
 abbrev pub invariant-loop-rest : goal.invariant-loop-rest

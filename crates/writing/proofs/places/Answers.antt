@@ -2,7 +2,7 @@
 -- Assumes nothing.
 use Prim.Native.Nat.{◌-◌}
 use native.Mathlib.Omega.{arith}
-use Rattle.writing.proofs.DecimalLaws.{Counting, counting_start, counting_more, counting_end}
+use Rattle.writing.proofs.DecimalLaws.{counting_start, counting_more, counting_end}
 use Rattle.writing.proofs.places.Goals as goal
 
 pub loop-rest-init : goal.loop-rest-init

@@ -1,8 +1,7 @@
 -- `writing::places` meets its contract. The measure is what is left of the number.
 -- Assumes nothing.
 use Prim.Native.Nat.{◌-◌}
-use native.Mathlib.Omega.{arith}
-use Rattle.writing.proofs.DecimalLaws.{Counting, counting_start, counting_more, counting_end}
+use Rattle.writing.proofs.DecimalLaws.{Counting}
 use Rattle.writing.proofs.places.Given as goal
 
 abbrev pub invariant-loop-rest : goal.invariant-loop-rest

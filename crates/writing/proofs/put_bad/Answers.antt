@@ -1,6 +1,5 @@
 -- `writing::put_bad` meets its contract: 25 places are room for four bytes, any number and a line feed.
 -- Assumes nothing.
-use borrow.Author.Rules.{rules}
 use native.Mathlib.Omega.{arith}
 use Rattle.writing.proofs.DecimalLaws.{count_length}
 use Rattle.writing.specs.Decimal.{bad_text}

@@ -1,6 +1,5 @@
 -- `writing::put_byte` meets its contract.
 -- Assumes nothing.
-use borrow.Author.Rules.{rules}
 use mathlib.Core.Path.{refl}
 use Rattle.writing.proofs.Written.{written_one}
 use Rattle.writing.proofs.put_byte.Goals as goal

@@ -1,6 +1,5 @@
 -- `writing::put_count` meets its contract: 20 places are room for any count.
 -- Assumes nothing.
-use borrow.Author.Rules.{rules}
 use native.Mathlib.Omega.{arith}
 use Rattle.writing.proofs.DecimalLaws.{count_length}
 use Rattle.writing.proofs.put_count.Goals as goal

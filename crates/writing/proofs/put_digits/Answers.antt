@@ -1,6 +1,5 @@
 -- `writing::put_digits` meets its contract: as many of the last digits as there are, are all of them.
 -- Assumes nothing.
-use borrow.Author.Rules.{rules}
 use Rattle.writing.proofs.DecimalLaws.{count_is_last}
 use Rattle.writing.proofs.put_digits.Goals as goal
 

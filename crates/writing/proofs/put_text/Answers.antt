@@ -1,12 +1,10 @@
 -- `writing::put_text` meets its contract. The measure is how many bytes are left.
 -- Assumes nothing.
 use mathlib.Core.Path.{refl}
-use Prim.Native.Nat.{◌-◌}
 use native.Mathlib.Omega.{arith}
-use lib.ListN.{length}
 use lib.Seq.{take_all}
 use Rattle.writing.proofs.Written.{written_none}
-use Rattle.writing.proofs.TextLaws.{Copied, copied_more}
+use Rattle.writing.proofs.TextLaws.{copied_more}
 use Rattle.writing.proofs.put_text.Goals as goal
 
 pub loop-i-init : goal.loop-i-init

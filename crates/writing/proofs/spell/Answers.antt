@@ -2,7 +2,7 @@
 -- Assumes nothing.
 use native.Mathlib.Omega.{arith}
 use mathlib.Core.Path.{refl}
-use Rattle.writing.proofs.Written.{Spelt, spelt_more, spelt_end}
+use Rattle.writing.proofs.Written.{spelt_more, spelt_end}
 use Rattle.writing.proofs.spell.Goals as goal
 
 pub loop-i-init : goal.loop-i-init

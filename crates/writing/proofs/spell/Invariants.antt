@@ -1,8 +1,6 @@
 -- `writing::spell` meets its contract. The measure is how many digits are left.
 -- Assumes nothing.
-use native.Mathlib.Omega.{arith}
-use mathlib.Core.Path.{refl}
-use Rattle.writing.proofs.Written.{Spelt, spelt_more, spelt_end}
+use Rattle.writing.proofs.Written.{Spelt}
 use Rattle.writing.proofs.spell.Given as goal
 
 abbrev pub invariant-loop-i : goal.invariant-loop-i
