@@ -4,4 +4,4 @@ use borrow.Author.Rules.{rules}
 use Rattle.stream.proofs.next_if.Goals as goal
 
 pub returns-then-more : goal.returns-then-more
-returns-then-more c = rw c.before.if-more.true c.next.ensures
+returns-then-more c = rw c.if-more.true c.next.ensures

@@ -7,4 +7,4 @@ use Rattle.stream.proofs.put_header.Goals as goal
 
 pub returns : goal.returns
 unfolding header_text
-returns c = let e = c.before.before.put_text.ensures in (e.0, e.1, omega arith)
+returns c = let e = c.put_text.ensures in (e.0, e.1, omega arith)
