@@ -1,6 +1,5 @@
 -- `stream::ended` meets its contract: 81 places are room for a bad line and the totals.
 -- Assumes nothing.
-use borrow.Author.Rules.{rules}
 use native.Mathlib.Omega.{arith}
 use Rattle.writing.proofs.TextLaws.{put, put_then}
 use Rattle.stream.specs.Program.{closing_text}

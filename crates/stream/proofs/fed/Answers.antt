@@ -1,20 +1,16 @@
 -- `stream::fed` meets its contract. The measure is how many bytes are left.
 -- Assumes nothing.
-use Prim.Native.Nat.{◌-◌}
 use mathlib.Core.Path.{sym, ◌∙◌, ap}
 use mathlib.Core.Bool.{Bool, ◌&&◌}
 use native.Mathlib.Omega.{arith}
-use borrow.Author.Rules.{length_unmapped}
-use borrow.Author.Tests.{not-true, not-false}
-use lib.ListN.{length}
 use Rattle.drive_record.proofs.Ranges.{sound→, sound←}
-use Rattle.stream.proofs.Feeding.{Telling, telling_start, telling_row, telling_else, telling_past, telling_stopped}
+use Rattle.stream.proofs.Feeding.{telling_start, telling_row, telling_else, telling_past, telling_stopped}
 use Rattle.stream.proofs.fed.Goals as goal
 
 -- that the stream's row has three numbers is part of what an array is
 pub loop-i-init : goal.loop-i-init
 loop-i-init c =
-    let w = length_unmapped _ c.args.s.row 3 c.well_formed.0.1.1.1.1.0.1.0.1 in
+    let w = c.well_formed.0.1.1.1.1.0.1.0.1 in
     telling_start c.args.s c.args.chunk.now c.args.at c.args.out.now (sound→ c.args.s.tally.drive c.requires.0) w c.requires.1
 
 pub row_told-t-requires : goal.row_told-t-requires
@@ -39,10 +35,14 @@ loop-i-preserved c =
 
 -- the two ends: stopped, or past the last byte
 pub returns-else-not-stopped : goal.returns-else-not-stopped
-returns-else-not-stopped c = telling_stopped c.loop-i.invariant c.if-not-stopped.false
+returns-else-not-stopped c =
+    let w = telling_stopped c.loop-i.invariant c.if-not-stopped.false in
+    record { stream_value = w.0; place_value = w.1 }
 
 pub returns-after-loop-i : goal.returns-after-loop-i
-returns-after-loop-i c = telling_past c.loop-i.invariant c.loop-i-test.false
+returns-after-loop-i c =
+    let w = telling_past c.loop-i.invariant c.loop-i-test.false in
+    record { stream_value = w.0; place_value = w.1 }
 
 pub slice_bounds-line_fed-end : goal.slice_bounds-line_fed-end
 slice_bounds-line_fed-end c = sym c.loop-i.invariant.wide

@@ -1,14 +1,8 @@
 -- `stream::fed` meets its contract. The measure is how many bytes are left.
 -- Assumes nothing.
 use Prim.Native.Nat.{◌-◌}
-use mathlib.Core.Path.{sym, ◌∙◌, ap}
-use mathlib.Core.Bool.{Bool, ◌&&◌}
-use native.Mathlib.Omega.{arith}
-use borrow.Author.Rules.{length_unmapped}
-use borrow.Author.Tests.{not-true, not-false}
 use lib.ListN.{length}
-use Rattle.drive_record.proofs.Ranges.{sound→, sound←}
-use Rattle.stream.proofs.Feeding.{Telling, telling_start, telling_row, telling_else, telling_past, telling_stopped}
+use Rattle.stream.proofs.Feeding.{Telling}
 use Rattle.stream.proofs.fed.Given as goal
 
 abbrev pub invariant-loop-i : goal.invariant-loop-i

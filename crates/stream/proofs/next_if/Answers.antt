@@ -1,6 +1,5 @@
 -- `stream::next_if` meets its contract.
 -- Assumes nothing.
-use borrow.Author.Rules.{rules}
 use Rattle.stream.proofs.next_if.Goals as goal
 
 pub returns-then-more : goal.returns-then-more

@@ -1,6 +1,5 @@
 -- `stream::put_header` meets its contract.
 -- Assumes nothing.
-use borrow.Author.Rules.{rules}
 use native.Mathlib.Omega.{arith}
 use Rattle.stream.specs.Program.{header_text}
 use Rattle.stream.proofs.put_header.Goals as goal

@@ -1,6 +1,5 @@
 -- `stream::put_totals` meets its contract: 56 places are room for 16 bytes and any two counts.
 -- Assumes nothing.
-use borrow.Author.Rules.{rules}
 use native.Mathlib.Omega.{arith}
 use lib.ListN.{length-append}
 use Rattle.writing.proofs.DecimalLaws.{count_length}
