@@ -70,6 +70,7 @@ fn field_before_v(i: usize) -> Field
     gain([b'c', b'K', b'i', b'=', b' ', b' '], 4, 0, 32767)
 }
 
+#[tactic(auto, unfolding(crate::specs::Names::field_of, settings::specs::Words::entries))]
 fn field_from_v(i: usize) -> Field
     requires { (7 ≤ i) × (i < size) }
     ensures { result ≡ field_of (entry_at i) }

@@ -71,6 +71,7 @@ fn place_after(at: u32) -> u32
     if at < 127 { at + 1 } else { 0 }
 }
 
+#[tactic(auto, unfolding(crate::specs::Ring::one_more))]
 fn one_more(real: u32) -> u32
     ensures { result ≡ one_more real }
 {

@@ -155,6 +155,7 @@ pub enum Checked {
     Refused(i32),
 }
 
+#[tactic(auto, using(crate::proofs::Ranges::checked_is, crate::proofs::Ranges::accepted_is))]
 pub fn check(s: Settings) -> Checked
     ensures { result ≡ checked s }
 {

@@ -129,7 +129,8 @@ pub fn weakened(f: i32, n: i32) -> i32
     ensures { result ≡ weakened_of f n }
 {
     let m = size(n);
-    if m <= 4096 {
+    let slow = m <= 4096;
+    if slow {
         f
     } else {
         fixed::scaled(f, 4096, m) as i32

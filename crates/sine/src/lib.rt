@@ -89,6 +89,7 @@ fn place(k: usize) -> usize
 }
 
 // With the sign of entry k. It is turned in 16 bits, so that the compiler keeps the numbers above in 16.
+#[tactic(auto, unfolding(crate::specs::Sine::signed_at))]
 fn signed(k: usize, size: i16) -> i16
     requires { nat_abs size ≤ 4096 }
     ensures { result ≡ signed_at k size }

@@ -119,6 +119,7 @@ pub fn line_end(l: Line, numbers: &mut [i32]) -> Line
 }
 
 // One byte of a line, which is no line feed.
+#[tactic(auto, unfolding(crate::specs::Automaton::line_next, crate::specs::Automaton::numbers_next))]
 pub fn line_next(l: Line, b: u8, numbers: &mut [i32]) -> Line
     ensures { (result ≡ line_next l b (length numbers.old)) × (numbers.new ≡ numbers_next l b numbers.old) }
 {

@@ -18,13 +18,13 @@ size : (c : tie.After-size-m) → Reads (m32 c.size-m.result) (pos (nat_abs c.be
 unfolding size_of
 size c = stored w32 (result (c.size-m.ensures ∙ ap size_of (word c.before.ranges.n).is) c.before.requires.1) tt
 
-slow : (c : tie.Then-m-le4096) → nat_abs c.before.before.args.n ≤ 4096
-slow c = leb→le _ _ (at_most (size c.before) (lit (pos 4096)) c.if-m-le4096.true).le
+slow : (c : tie.Then-slow) → nat_abs c.before.before.args.n ≤ 4096
+slow c = leb→le _ _ (at_most (size c.before) (lit (pos 4096)) c.if-slow.true).le
 
-fast : (c : tie.Else-m-le4096) → 4096 < nat_abs c.before.before.args.n
-fast c = ltb→lt _ _ (not_at_most (size c.before) (lit (pos 4096)) c.if-m-le4096.false).lt
+fast : (c : tie.Else-slow) → 4096 < nat_abs c.before.before.args.n
+fast c = ltb→lt _ _ (not_at_most (size c.before) (lit (pos 4096)) c.if-slow.false).lt
 
-some : (c : tie.Else-m-le4096) → pos 0 <ℤ pos (nat_abs c.before.before.args.n)
+some : (c : tie.Else-slow) → pos 0 <ℤ pos (nat_abs c.before.before.args.n)
 some c = omega (arith, order, fast c)
 
 scaled-requires : tie.Need-scaled-requires
@@ -43,12 +43,12 @@ flux c =
 cast-result : tie.Need-overflow_cast-result
 cast-result c = fits (stored w64 (flux c) tt) tt
 
-returns : tie.Need-returns-then-m-le4096
+returns : tie.Need-returns-then-slow
 returns c =
     let s = c.before.before in
     (word s.ranges.f).is ∙ sym (weakened_slow s.args.f s.args.n (slow c))
 
-returns-2 : tie.Need-returns-else-m-le4096
+returns-2 : tie.Need-returns-else-slow
 returns-2 c = (stored w32 (stored w64 (flux c) tt) tt).is
 
 pub weakened_spec : {M : Type 1} → statement M
