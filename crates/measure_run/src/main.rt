@@ -50,9 +50,8 @@ fn samples_a_run(first: u8) -> usize
     if first == b'e' { 48 } else { 96 }
 }
 
-fn show(n: u64) {
-    io::print_decimal(1, n);
-    io::write_all(1, b"\n");
+fn show(rt: HostRuntime, n: u64) {
+    let _ = rt.println(n);
 }
 
 // Whether a number is above 300; asked of the last row's, so that no part of the run goes unused and is left out by the optimiser.
@@ -60,15 +59,15 @@ fn above(v: i32) -> u64 {
     if 300 < v { 1 } else { 0 }
 }
 
-fn main() {
+fn main(rt: HostRuntime) {
     let Checked::Accepted(s) = settings::check(settings::bench_settings()) else {
         return;
     };
     let d = drive::fresh(s);
-    let mut bytes = io::large_buffer();
-    let got = pipes::receive(&mut bytes);
+    let mut bytes = [0u8; 65536];
+    let got = pipes::receive(&mut rt.stdin(), &mut bytes);
     if got.failed {
-        pipes::unread(b"measure_run");
+        pipes::unread(&mut rt.stderr(), b"measure_run");
         return;
     }
     let times = got.size;
@@ -76,9 +75,9 @@ fn main() {
     let mut out = [0i32; 128];
     let size = samples_a_run(bytes[0]);
     let accepted = runs(d, &samples, &mut out, times, size, 96 - size);
-    show(accepted as u64);
-    show(above(out[124]));
-    show(above(out[125]));
-    show(above(out[126]));
-    show(above(out[127]));
+    show(rt, accepted as u64);
+    show(rt, above(out[124]));
+    show(rt, above(out[125]));
+    show(rt, above(out[126]));
+    show(rt, above(out[127]));
 }

@@ -3,7 +3,7 @@
 #![tactic(auto)]
 
 ghost use Rattle.std.specs.Prelude.{◌≡◌, ◌+◌, ◌*◌, ◌≤◌, cond, not, ◌&&◌, [], ltb, pos, length, take, replicate};
-ghost use Rattle.io.specs.Counts.{IsPrefixLen};
+ghost use Rattle.pipes.specs.Counts.{IsPrefixLen};
 ghost use Rattle.writing.specs.Decimal.{bad_text, written};
 ghost use Rattle.feeding.specs.Lines.{one_more};
 ghost use Rattle.feeding.specs.Feeding.{line_due, fed_of};
@@ -18,6 +18,7 @@ use pipes::Got;
 use settings::Settings;
 use shaft::Shaft;
 use stages::Stepped;
+use std::io::{Read, Write};
 use text::Line;
 
 // What is kept from one byte to the next: how many calls came, the line at hand, its numbers, and whether a byte of it came; whether a line came
@@ -330,7 +331,7 @@ pub struct Turned {
 }
 
 // What was read is fed, and what it is answered is sent.
-fn turn(s: Calls, got: Got, bytes: &[u8], out: &mut [u8]) -> Turned
+fn turn<W: Write>(to: &mut W, s: Calls, got: Got, bytes: &[u8], out: &mut [u8]) -> Turned
     requires { (264 * length bytes.now ≤ length out.old) × IsPrefixLen got.size bytes.now }
     ensures { (as_fed result.calls ≡ fed_of is_call calls_after (as_fed s) (take got.size bytes.now))
         × (result.unread ≡ got.failed) × (result.going ≡ ltb 0 got.size && result.sent && not result.calls.stopped) }
@@ -338,7 +339,7 @@ fn turn(s: Calls, got: Got, bytes: &[u8], out: &mut [u8]) -> Turned
     let size = got.size;
     let p = fed(s, &bytes[..size], out, 0);
     let calls = p.calls;
-    let sent = pipes::send(out, p.place);
+    let sent = pipes::send(to, out, p.place);
     Turned {
         calls: calls,
         unread: got.failed,
@@ -349,21 +350,28 @@ fn turn(s: Calls, got: Got, bytes: &[u8], out: &mut [u8]) -> Turned
 
 // Turn by turn, until a line came that is no call, the input is over, or a read or a write failed.
 // A proved loop has to end, and nothing says that the input does: so the turns are counted, from a number that no run uses up.
-fn read_through(first: Turned, bytes: &mut [u8], out: &mut [u8]) -> Turned
+fn read_through<R: Read, W: Write>(
+    from: &mut R,
+    to: &mut W,
+    first: Turned,
+    bytes: &mut [u8],
+    out: &mut [u8],
+) -> Turned
     requires { 264 * length bytes.old ≤ length out.old }
 {
     let mut t = first;
-    let mut turns = u64::MAX;
-    while 0 < turns && t.going {
-        let got = pipes::receive(bytes);
-        t = turn(t.calls, got, bytes, out);
-        turns -= 1;
+    for _ in 0..u64::MAX {
+        if !t.going {
+            break;
+        }
+        let got = pipes::receive(from, bytes);
+        t = turn(to, t.calls, got, bytes, out);
     }
     t
 }
 
 // Where a read or a write failed words on standard error say so.
-fn main() {
+fn main(rt: HostRuntime) {
     let mut bytes = [0u8; 256];
     // 264 places for each of them, as `fed` asks
     let mut out = [0u8; 67584];
@@ -373,13 +381,19 @@ fn main() {
         sent: true,
         going: true,
     };
-    let t = read_through(first, &mut bytes, &mut out);
+    let t = read_through(
+        &mut rt.stdin(),
+        &mut rt.stdout(),
+        first,
+        &mut bytes,
+        &mut out,
+    );
     if t.unread {
-        pipes::unread(b"probe");
+        pipes::unread(&mut rt.stderr(), b"probe");
         return;
     }
     let place = ended(t.calls, &mut out);
-    if !(t.sent && pipes::send(&out, place)) {
-        pipes::unsent(b"probe");
+    if !(t.sent && pipes::send(&mut rt.stdout(), &out, place)) {
+        pipes::unsent(&mut rt.stderr(), b"probe");
     }
 }

@@ -2,10 +2,11 @@
 #![tactic(auto)]
 
 ghost use Rattle.std.specs.Prelude.{◌≡◌, ◌+◌, ◌≤◌, ltb, length, take};
-ghost use Rattle.io.specs.Counts.{IsPrefixLen};
+ghost use Rattle.pipes.specs.Counts.{IsPrefixLen};
 ghost use Rattle.writing.specs.Decimal.{written};
 
 use pipes::Got;
+use std::io::Read;
 
 // So much is read at a time, and so much is enough: no sheet is so long, and the first faulty line and what is shown of it stand in front of that.
 const CHUNK: usize = 1024;
@@ -41,7 +42,7 @@ fn turn(got: Got, bytes: &[u8], text: &mut [u8], at: usize) -> Gathered
 }
 
 // Turn by turn, until the input is over, a read failed, or there is enough.
-fn read_through(bytes: &mut [u8], text: &mut [u8]) -> Gathered
+fn read_through<R: Read>(from: &mut R, bytes: &mut [u8], text: &mut [u8]) -> Gathered
     requires { (length bytes.old ≡ 1024) × (length text.old ≡ 4096) }
     ensures { result.size ≤ 4096 }
 {
@@ -51,25 +52,25 @@ fn read_through(bytes: &mut [u8], text: &mut [u8]) -> Gathered
         going: true,
     };
     while g.going && g.size <= ENOUGH {
-        let got = pipes::receive(bytes);
+        let got = pipes::receive(from, bytes);
         g = turn(got, bytes, text, g.size);
     }
     g
 }
 
 // Where a read or a write failed words on standard error say so, and where a read failed nothing is said of the text.
-fn main() {
+fn main(rt: HostRuntime) {
     let mut bytes = [0u8; CHUNK];
     let mut text = [0u8; ROOM];
     let mut out = [0u8; ANSWER];
-    let g = read_through(&mut bytes, &mut text);
+    let g = read_through(&mut rt.stdin(), &mut bytes, &mut text);
     if g.unread {
-        pipes::unread(b"sheet");
+        pipes::unread(&mut rt.stderr(), b"sheet");
         return;
     }
     let size = g.size;
     let place = findings::put_answer(&text[..size], &mut out, 0);
-    if !pipes::send(&out, place) {
-        pipes::unsent(b"sheet");
+    if !pipes::send(&mut rt.stdout(), &out, place) {
+        pipes::unsent(&mut rt.stderr(), b"sheet");
     }
 }

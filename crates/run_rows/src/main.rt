@@ -3,13 +3,14 @@
 #![tactic(auto)]
 
 ghost use Rattle.std.specs.Prelude.{◌≡◌, true, not, ◌&&◌, ◌*◌, ◌≤◌, ltb, length, take};
-ghost use Rattle.io.specs.Counts.{IsPrefixLen};
+ghost use Rattle.pipes.specs.Counts.{IsPrefixLen};
 ghost use Rattle.writing.specs.Decimal.{written};
 ghost use Rattle.stream.specs.Streaming.{as_fed, rows_fed, rows_text};
 ghost use Rattle.drive_record.specs.Record.{sound as sound_of};
 
 use pipes::Got;
 use settings::Checked;
+use std::io::{Read, Write};
 use stream::Stream;
 
 // What a turn leaves: the stream; whether the read failed; whether all that was written was sent; whether to go on.
@@ -22,7 +23,7 @@ pub struct Turned {
 }
 
 // What was read is fed, and what it is answered is sent.
-fn turn(s: Stream, got: Got, bytes: &[u8], out: &mut [u8]) -> Turned
+fn turn<W: Write>(to: &mut W, s: Stream, got: Got, bytes: &[u8], out: &mut [u8]) -> Turned
     requires { (sound_of s.tally.drive ≡ true)
         × (48 * length bytes.now ≤ length out.old) × IsPrefixLen got.size bytes.now }
     ensures stream_value { (as_fed result.stream ≡ rows_fed (as_fed s) (take got.size bytes.now))
@@ -33,7 +34,7 @@ fn turn(s: Stream, got: Got, bytes: &[u8], out: &mut [u8]) -> Turned
     let size = got.size;
     let p = stream::fed(s, &bytes[..size], out, 0);
     let stream = p.stream;
-    let sent = pipes::send(out, p.place);
+    let sent = pipes::send(to, out, p.place);
     Turned {
         stream: stream,
         unread: got.failed,
@@ -44,32 +45,39 @@ fn turn(s: Stream, got: Got, bytes: &[u8], out: &mut [u8]) -> Turned
 
 // Turn by turn, until a line came that is no row, the input is over, or a read or a write failed.
 // A proved loop has to end, and nothing says that the input does: so the turns are counted, from a number that no run uses up.
-fn read_through(first: Turned, bytes: &mut [u8], out: &mut [u8]) -> Turned
+fn read_through<R: Read, W: Write>(
+    from: &mut R,
+    to: &mut W,
+    first: Turned,
+    bytes: &mut [u8],
+    out: &mut [u8],
+) -> Turned
     requires { (sound_of first.stream.tally.drive ≡ true) × (48 * length bytes.old ≤ length out.old) }
 {
     let mut t = first;
-    let mut turns = u64::MAX;
-    while 0 < turns && t.going {
-        let got = pipes::receive(bytes);
-        t = turn(t.stream, got, bytes, out);
-        turns -= 1;
+    for _ in 0..u64::MAX {
+        if !t.going {
+            break;
+        }
+        let got = pipes::receive(from, bytes);
+        t = turn(to, t.stream, got, bytes, out);
     }
     t
 }
 
 // What is said of a line that is no row, on standard error: 15 bytes, any count, 14 bytes. Standard output has its number too, but a
 // program hands back no status, and whoever started it has only these words to go by.
-fn tell_bad(s: Stream, out: &mut [u8])
+fn tell_bad<W: Write>(to: &mut W, s: Stream, out: &mut [u8])
     requires { 49 ≤ length out.old }
 {
     let a = writing::put_text(b"run_rows: line ", out, 0);
     let b = writing::put_count(feeding::next(s.tally.rows), out, a);
     let c = writing::put_text(b" is not a row\n", out, b);
-    pipes::tell(out, c);
+    pipes::tell(to, out, c);
 }
 
 // Where a read or a write failed words on standard error say so, and no totals are written: nobody takes what stands for the whole.
-fn main() {
+fn main(rt: HostRuntime) {
     let Checked::Accepted(s) = settings::check(settings::bench_settings()) else {
         return;
     };
@@ -78,24 +86,30 @@ fn main() {
     // 48 places for each of them, as the stream asks
     let mut out = [0u8; 196608];
     let header = stream::put_header(&mut out, 0);
-    let sent = pipes::send(&out, header);
+    let sent = pipes::send(&mut rt.stdout(), &out, header);
     let first = Turned {
         stream: stream::start(d),
         unread: false,
         sent: sent,
         going: sent,
     };
-    let t = read_through(first, &mut bytes, &mut out);
+    let t = read_through(
+        &mut rt.stdin(),
+        &mut rt.stdout(),
+        first,
+        &mut bytes,
+        &mut out,
+    );
     if t.unread {
-        pipes::unread(b"run_rows");
+        pipes::unread(&mut rt.stderr(), b"run_rows");
         return;
     }
     let place = stream::ended(t.stream, &mut out, 0);
-    if !(t.sent && pipes::send(&out, place)) {
-        pipes::unsent(b"run_rows");
+    if !(t.sent && pipes::send(&mut rt.stdout(), &out, place)) {
+        pipes::unsent(&mut rt.stderr(), b"run_rows");
         return;
     }
     if t.stream.begun {
-        tell_bad(t.stream, &mut out);
+        tell_bad(&mut rt.stderr(), t.stream, &mut out);
     }
 }

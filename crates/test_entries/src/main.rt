@@ -6,45 +6,45 @@
 ghost use Rattle.std.specs.Prelude.{◌≤◌, length};
 ghost use Rattle.sine.specs.Sine.{Angle};
 
-fn show(numbers: &[i32])
+fn show(rt: HostRuntime, numbers: &[i32])
     requires { (1 ≤ length numbers.now) × (length numbers.now ≤ 2) }
 {
     let mut out = [0u8; 24];
     let place = writing::put_line(numbers, numbers.len(), &mut out, 0);
-    if !pipes::send(&out, place) {
-        pipes::unsent(b"test_entries");
+    if !pipes::send(&mut rt.stdout(), &out, place) {
+        pipes::unsent(&mut rt.stderr(), b"test_entries");
     }
 }
 
-fn show_sine(angle: i32)
+fn show_sine(rt: HostRuntime, angle: i32)
     requires { Angle angle }
 {
     let numbers = [sine::sine(angle)];
-    show(&numbers);
+    show(rt, &numbers);
 }
 
-fn show_both(angle: i32)
+fn show_both(rt: HostRuntime, angle: i32)
     requires { Angle angle }
 {
     let numbers = [sine::sine(angle), sine::cosine(angle)];
-    show(&numbers);
+    show(rt, &numbers);
 }
 
-fn show_all() {
+fn show_all(rt: HostRuntime) {
     let mut k: u32 = 0;
     while k < 256 {
-        show_both((256 * k) as i32);
+        show_both(rt, (256 * k) as i32);
         k += 1;
     }
 }
 
-fn main() {
-    show_sine(0);
-    show_sine(256);
-    show_sine(4096);
-    show_sine(8192);
-    show_sine(16128);
-    show_sine(16384);
-    show_sine(255);
-    show_all();
+fn main(rt: HostRuntime) {
+    show_sine(rt, 0);
+    show_sine(rt, 256);
+    show_sine(rt, 4096);
+    show_sine(rt, 8192);
+    show_sine(rt, 16128);
+    show_sine(rt, 16384);
+    show_sine(rt, 255);
+    show_all(rt);
 }

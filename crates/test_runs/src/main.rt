@@ -15,7 +15,7 @@ fn run_into(d: Drive, samples: &[i32], answers: &mut [i32], lent: usize) -> Ran
     rows::run(d, samples, &mut answers[..lent])
 }
 
-fn tell(r: Ran, answers: &[i32], out: &mut [u8])
+fn tell(rt: HostRuntime, r: Ran, answers: &[i32], out: &mut [u8])
     requires { (8 ≤ length answers.now) × (150 ≤ length out.old) }
 {
     let number = [r.number];
@@ -25,15 +25,15 @@ fn tell(r: Ran, answers: &[i32], out: &mut [u8])
     let e = writing::put_byte(b' ', out, c);
     let f = writing::put_line(&number, 1, out, e);
     let end = writing::put_line(answers, 8, out, f);
-    pipes::send(out, end);
+    pipes::send(&mut rt.stdout(), out, end);
 }
 
-fn ran(d: Drive, samples: &[i32], lent: usize, out: &mut [u8])
+fn ran(rt: HostRuntime, d: Drive, samples: &[i32], lent: usize, out: &mut [u8])
     requires { (lent ≤ 8) × (150 ≤ length out.old) }
 {
     let mut answers = [7i32; 8];
     let r = run_into(d, samples, &mut answers, lent);
-    tell(r, &answers, out);
+    tell(rt, r, &answers, out);
 }
 
 fn turned_too_far(d: Drive) -> Drive {
@@ -50,19 +50,19 @@ fn tripped(d: Drive) -> Drive {
     n
 }
 
-fn main() {
+fn main(rt: HostRuntime) {
     let Checked::Accepted(s) = settings::check(settings::bench_settings()) else {
         return;
     };
     let d = drive::fresh(s);
     let samples = [0i32, 0, 0, 9000, 0, 0];
     let mut out = [0u8; 150];
-    ran(d, &samples, 8, &mut out);
-    ran(d, &samples[..3], 8, &mut out);
-    ran(d, &samples[..0], 0, &mut out);
-    ran(d, &samples[..4], 8, &mut out);
-    ran(d, &samples, 7, &mut out);
-    ran(tripped(d), &samples, 8, &mut out);
-    ran(turned_too_far(d), &samples, 8, &mut out);
-    ran(turned_too_far(d), &samples[..4], 7, &mut out);
+    ran(rt, d, &samples, 8, &mut out);
+    ran(rt, d, &samples[..3], 8, &mut out);
+    ran(rt, d, &samples[..0], 0, &mut out);
+    ran(rt, d, &samples[..4], 8, &mut out);
+    ran(rt, d, &samples, 7, &mut out);
+    ran(rt, tripped(d), &samples, 8, &mut out);
+    ran(rt, turned_too_far(d), &samples, 8, &mut out);
+    ran(rt, turned_too_far(d), &samples[..4], 7, &mut out);
 }
