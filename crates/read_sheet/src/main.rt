@@ -1,12 +1,15 @@
 // The program sheet: standard input is a sheet, or should be one; standard output is what is to be said of it, and the sheet itself where it is good.
 #![tactic(auto)]
 
-ghost use Rattle.std.specs.Prelude.{◌≡◌, ◌+◌, ◌≤◌, ltb, length, take};
+ghost use Rattle.std.specs.Prelude.{◌≡◌, true, false, ◌+◌, ◌<◌, ◌≤◌, ltb, length, take, IfSome};
+ghost use Rattle.std.specs.Io.KnownBytes.{Appends};
 ghost use Rattle.pipes.specs.Counts.{IsPrefixLen};
 ghost use Rattle.writing.specs.Decimal.{written};
+ghost use Rattle.findings.specs.Findings.{answer_text};
+ghost use Rattle.read_sheet.specs.Gathering.{Gathering};
 
 use pipes::Got;
-use std::io::Read;
+use std::io::{Read, Write};
 
 // So much is read at a time, and so much is enough: no sheet is so long, and the first faulty line and what is shown of it stand in front of that.
 const CHUNK: usize = 1024;
@@ -24,6 +27,13 @@ pub struct Gathered {
     pub size: usize,
     pub unread: bool,
     pub going: bool,
+}
+
+// How it ended: whether a read failed; whether all that was to be said was sent.
+#[derive(Clone, Copy)]
+pub struct Ended {
+    pub unread: bool,
+    pub sent: bool,
 }
 
 // What was read goes behind what was gathered.
@@ -44,7 +54,9 @@ fn turn(got: Got, bytes: &[u8], text: &mut [u8], at: usize) -> Gathered
 // Turn by turn, until the input is over, a read failed, or there is enough.
 fn read_through<R: Read>(from: &mut R, bytes: &mut [u8], text: &mut [u8]) -> Gathered
     requires { (length bytes.old ≡ 1024) × (length text.old ≡ 4096) }
-    ensures { result.size ≤ 4096 }
+    ensures size { result.size ≤ 4096 }
+    ensures gathered { Gathering (R.remaining from.old) (R.remaining from.new) text.new result }
+    ensures enough { result.going ≡ true → 3072 < result.size }
 {
     let mut g = Gathered {
         size: 0,
@@ -58,19 +70,51 @@ fn read_through<R: Read>(from: &mut R, bytes: &mut [u8], text: &mut [u8]) -> Gat
     g
 }
 
+// What is to be said of what was read is sent; where a read failed nothing is. So if no read failed, and all was sent, it is what `answer_text` says of the
+// input as a whole.
+fn answer_through<R: Read, W: Write>(
+    from: &mut R,
+    to: &mut W,
+    bytes: &mut [u8],
+    text: &mut [u8],
+    out: &mut [u8],
+) -> Ended
+    requires { (length bytes.old ≡ 1024) × (length text.old ≡ 4096) × (602 ≤ length out.old) }
+    ensures { result.unread ≡ false → result.sent ≡ true
+        → IfSome (R.remaining from.old) (λ input. Appends (W.contents to.old) (W.contents to.new) (answer_text input)) }
+{
+    let g = read_through(from, bytes, text);
+    if g.unread {
+        return Ended {
+            unread: true,
+            sent: false,
+        };
+    }
+    let size = g.size;
+    let place = findings::put_answer(&text[..size], out, 0);
+    Ended {
+        unread: false,
+        sent: pipes::send(to, out, place),
+    }
+}
+
 // Where a read or a write failed words on standard error say so, and where a read failed nothing is said of the text.
 fn main(rt: HostRuntime) {
     let mut bytes = [0u8; CHUNK];
     let mut text = [0u8; ROOM];
     let mut out = [0u8; ANSWER];
-    let g = read_through(&mut rt.stdin(), &mut bytes, &mut text);
-    if g.unread {
+    let e = answer_through(
+        &mut rt.stdin(),
+        &mut rt.stdout(),
+        &mut bytes,
+        &mut text,
+        &mut out,
+    );
+    if e.unread {
         pipes::unread(&mut rt.stderr(), b"sheet");
         return;
     }
-    let size = g.size;
-    let place = findings::put_answer(&text[..size], &mut out, 0);
-    if !pipes::send(&mut rt.stdout(), &out, place) {
+    if !e.sent {
         pipes::unsent(&mut rt.stderr(), b"sheet");
     }
 }

@@ -2,12 +2,16 @@
 // compares and its number. What is read goes to the stream as it comes, and what the stream writes of it is sent at once.
 #![tactic(auto)]
 
-ghost use Rattle.std.specs.Prelude.{◌≡◌, true, not, ◌&&◌, ◌*◌, ◌≤◌, ltb, length, take};
+ghost use Rattle.std.specs.Prelude.{◌≡◌, true, false, not, ◌&&◌, ◌*◌, ◌<◌, ◌≤◌, ltb, length, take, IfSome};
+ghost use Rattle.std.specs.Io.KnownBytes.{Appends};
 ghost use Rattle.pipes.specs.Counts.{IsPrefixLen};
 ghost use Rattle.writing.specs.Decimal.{written};
+ghost use Rattle.stream.specs.Program.{program_text};
 ghost use Rattle.stream.specs.Streaming.{as_fed, rows_fed, rows_text};
 ghost use Rattle.drive_record.specs.Record.{sound as sound_of};
+ghost use Rattle.run_rows.specs.Through.{Through};
 
+use drive_record::Drive;
 use pipes::Got;
 use settings::Checked;
 use std::io::{Read, Write};
@@ -30,6 +34,7 @@ fn turn<W: Write>(to: &mut W, s: Stream, got: Got, bytes: &[u8], out: &mut [u8])
         × (out.new ≡ written out.old 0 (rows_text (as_fed s) (take got.size bytes.now)))
         × (sound_of result.stream.tally.drive ≡ true) }
     ensures unread_value { (result.unread ≡ got.failed) × (result.going ≡ ltb 0 got.size && result.sent && not result.stream.stopped) }
+    ensures sent_value { result.sent ≡ true → Appends (W.contents to.old) (W.contents to.new) (rows_text (as_fed s) (take got.size bytes.now)) }
 {
     let size = got.size;
     let p = stream::fed(s, &bytes[..size], out, 0);
@@ -44,7 +49,7 @@ fn turn<W: Write>(to: &mut W, s: Stream, got: Got, bytes: &[u8], out: &mut [u8])
 }
 
 // Turn by turn, until a line came that is no row, the input is over, or a read or a write failed.
-// A proved loop has to end, and nothing says that the input does: so the turns are counted, from a number that no run uses up.
+// A proved loop has to end, and nothing says that the input does: so the turns are counted, up to a number that no run uses up.
 fn read_through<R: Read, W: Write>(
     from: &mut R,
     to: &mut W,
@@ -53,9 +58,11 @@ fn read_through<R: Read, W: Write>(
     out: &mut [u8],
 ) -> Turned
     requires { (sound_of first.stream.tally.drive ≡ true) × (48 * length bytes.old ≤ length out.old) }
+    ensures { 0 < length bytes.old → first.going ≡ true
+        → Through (as_fed first.stream) (R.remaining from.old) (R.remaining from.new) (W.contents to.old) (W.contents to.new) result 18446744073709551615 }
 {
     let mut t = first;
-    for _ in 0..u64::MAX {
+    for turns in 0..u64::MAX {
         if !t.going {
             break;
         }
@@ -63,6 +70,44 @@ fn read_through<R: Read, W: Write>(
         t = turn(to, t.stream, got, bytes, out);
     }
     t
+}
+
+// The run: the header, the answers as the rows come, and the totals; where a read or a write failed no totals. So if all of an input was read, and all that was
+// written was sent, that is what `program_text` says of the input as a whole.
+fn run_through<R: Read, W: Write>(
+    from: &mut R,
+    to: &mut W,
+    d: Drive,
+    bytes: &mut [u8],
+    out: &mut [u8],
+) -> Turned
+    requires { (sound_of d ≡ true) × (0 < length bytes.old) × (48 * length bytes.old ≤ length out.old) × (81 ≤ length out.old) }
+    ensures { result.unread ≡ false → result.sent ≡ true → IfSome (R.remaining from.old) (λ input. length input < 18446744073709551615
+        → Appends (W.contents to.old) (W.contents to.new) (program_text d input)) }
+{
+    let header = stream::put_header(out, 0);
+    let sent = pipes::send(to, out, header);
+    let first = Turned {
+        stream: stream::start(d),
+        unread: false,
+        sent: sent,
+        going: sent,
+    };
+    if !sent {
+        return first;
+    }
+    let t = read_through(from, to, first, bytes, out);
+    if t.unread | !t.sent {
+        return t;
+    }
+    let place = stream::ended(t.stream, out, 0);
+    let sent = pipes::send(to, out, place);
+    Turned {
+        stream: t.stream,
+        unread: false,
+        sent: sent,
+        going: false,
+    }
 }
 
 // What is said of a line that is no row, on standard error: 15 bytes, any count, 14 bytes. Standard output has its number too, but a
@@ -85,27 +130,12 @@ fn main(rt: HostRuntime) {
     let mut bytes = [0u8; 4096];
     // 48 places for each of them, as the stream asks
     let mut out = [0u8; 196608];
-    let header = stream::put_header(&mut out, 0);
-    let sent = pipes::send(&mut rt.stdout(), &out, header);
-    let first = Turned {
-        stream: stream::start(d),
-        unread: false,
-        sent: sent,
-        going: sent,
-    };
-    let t = read_through(
-        &mut rt.stdin(),
-        &mut rt.stdout(),
-        first,
-        &mut bytes,
-        &mut out,
-    );
+    let t = run_through(&mut rt.stdin(), &mut rt.stdout(), d, &mut bytes, &mut out);
     if t.unread {
         pipes::unread(&mut rt.stderr(), b"run_rows");
         return;
     }
-    let place = stream::ended(t.stream, &mut out, 0);
-    if !(t.sent && pipes::send(&mut rt.stdout(), &out, place)) {
+    if !t.sent {
         pipes::unsent(&mut rt.stderr(), b"run_rows");
         return;
     }
