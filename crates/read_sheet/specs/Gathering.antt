@@ -1,5 +1,5 @@
 -- What was gathered of a reader: f is what it had left at first, g what it has now.
-use Rattle.std.specs.Prelude.{◌≡◌, ℕ, true, false, List, length, take, Option}
+use Rattle.std.specs.Prelude.{◌≡◌, ℕ, false, List, length, take, Option}
 use Rattle.std.specs.Io.KnownBytes.{Consumes, IsAtEnd}
 use Rattle.read_sheet.specs.declared.Gathered.{Gathered}
 

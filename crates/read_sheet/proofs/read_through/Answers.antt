@@ -1,6 +1,6 @@
 -- `read_sheet::read_through` gathers what it reads: each turn one read more.
 -- Assumes nothing.
-use Rattle.std.proofs.Common.{◌≡◌, ℕ, ◌≤◌, ◌<◌, length, refl, sym, ◌∙◌, arith, true, false, rules}
+use Rattle.std.proofs.Common.{◌≡◌, length, refl, sym, ◌∙◌, arith}
 use Rattle.read_sheet.proofs.Gathers.{gathering_none, gathering_more}
 use Rattle.read_sheet.proofs.read_through.Goals as goal
 
