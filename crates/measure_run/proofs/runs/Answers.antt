@@ -1,8 +1,5 @@
 -- `measure_run::runs` is safe and ends.
 -- Assumes nothing.
-use Prim.Native.Nat.{◌-◌, ◌≤◌}
-use mathlib.Core.Path.{◌≡◌}
-use lib.ListN.{length}
 use borrow.Author.Rules.{rules}
 use Rattle.measure_run.proofs.runs.Goals as goal
 
