@@ -10,11 +10,11 @@ use Rattle.probe.specs.declared.Calls.{Calls}
 abbrev pub record_at : ℕ
 record_at = 1 + size
 
-abbrev pub field_own : ℕ
-field_own = record_at + 15
+abbrev pub own_at : ℕ
+own_at = record_at + 15
 
 abbrev pub most : ℕ
-most = field_own + 3
+most = own_at + 3
 
 -- a word of the record that is a flag is 0 or 1: whether a count was seen is its second, whether it is tripped its last
 abbrev pub flags : List ℤ → Bool
@@ -27,7 +27,7 @@ call ns k = equal k (get_or ns 0 (pos 0))
 unfoldable pub call_by : List ℤ → ℕ → Bool
 call_by ns n =
     (eqb n record_at && call ns (pos 0)) || (eqb n most && (call ns (pos 1) && flags ns))
-    || (eqb n (field_own + 1) && (call ns (pos 2) && flags ns)) || (eqb n field_own && (call ns (pos 3) && flags ns))
+    || (eqb n (own_at + 1) && (call ns (pos 2) && flags ns)) || (eqb n own_at && (call ns (pos 3) && flags ns))
 
 unfoldable pub is_call : List ℤ → Bool
 is_call ns = call_by ns (length ns)

@@ -1,15 +1,10 @@
 -- `probe::fed` meets its contract. The measure is how many bytes are left.
 -- Assumes nothing.
-use borrow.Author.Rules.{length_unmapped}
-use borrow.Author.Tests.{not-true, not-false}
 use Prim.Native.Nat.{◌+◌, ◌-◌, ◌*◌, ◌≤◌}
-use mathlib.Core.Path.{◌≡◌, refl, sym, ◌∙◌, ap}
-use mathlib.Core.Bool.{Bool, not, ◌&&◌}
-use native.Mathlib.Omega.{arith}
+use mathlib.Core.Path.{◌≡◌}
 use lib.ListN.{length}
-use Rattle.feeding.proofs.Upto.{Upto, upto_start, upto_past, upto_stopped}
+use Rattle.feeding.proofs.Upto.{Upto}
 use Rattle.probe.specs.Calls.{most, is_call, calls_after, as_fed}
-use Rattle.probe.proofs.CallLaws.{call_taken, none_taken}
 use Rattle.probe.proofs.fed.Given as goal
 
 abbrev pub invariant-loop-i : goal.invariant-loop-i
