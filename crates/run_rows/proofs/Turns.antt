@@ -80,6 +80,19 @@ turn_more {first} {f} {g} {h} {v} {w} {x} {last} {next} {turns} {n} chunk t on s
       over = λ e u s l. end u (byte_none n next.going next.sent next.stream.stopped is e s l);
     }
 
+-- where it does not go on, or goes on after so many turns, the count of the turns is no longer needed
+pub turns_enough : {first : Fed Tally} {f g v w : Option (List ℕ)} {last : Turned} {turns : ℕ} (most : ℕ)
+    → Through first f g v w last turns → (last.going ≡ true → most ≤ turns) → Through first f g v w last most
+turns_enough most t h = record {
+  eaten = t.eaten;
+  read = t.read;
+  fed = t.fed;
+  sent = t.sent;
+  going = t.going;
+  many = λ e. omega (arith, h e, t.many e);
+  over = t.over;
+}
+
 -- ════ the whole
 -- what was read, as one chunk
 one_chunk : (d : Drive) (input : List ℕ)
@@ -112,11 +125,16 @@ all_read d {f} {g} {v} {w} {last} t u s input is small =
     ended (Some ys) c h = ap (program_text d) (c ∙ ap (λ (l : List ℕ). t.eaten ++ l) h ∙ append-nil t.eaten)
 
 -- the header, the turns and the closing: what was written of an input
-pub finished : (d : Drive) (f g v w x y : Option (List ℕ)) (last : Turned) → Appends v w header_text
-    → Through (stream_start d) f g w x last 18446744073709551615 → last.unread ≡ false → last.sent ≡ true → Appends x y (last_text (as_fed last.stream))
+started : {first : Fed Tally} {d : Drive} {f g v w : Option (List ℕ)} {last : Turned} {turns : ℕ} → first ≡ stream_start d
+    → Through first f g v w last turns → Through (stream_start d) f g v w last turns
+started {first} {d} {f} {g} {v} {w} {last} {turns} e t = subst (λ (s : Fed Tally). Through s f g v w last turns) e t
+
+pub finished : (d : Drive) (first : Fed Tally) (f g v w x y : Option (List ℕ)) (last : Turned) → first ≡ stream_start d → Appends v w header_text
+    → Through first f g w x last 18446744073709551615 → last.unread ≡ false → last.sent ≡ true → Appends x y (last_text (as_fed last.stream))
     → IfSome f (λ input. length input < 18446744073709551615 → Appends v y (program_text d input))
-finished d None g v w x y last header t u s close = tt
-finished d (Some input) g v w x y last header t u s close = λ small.
-    let closing : Appends x y (last_text (rows_fed (stream_start d) t.eaten)) = subst (λ (z : Fed Tally). Appends x y (last_text z)) t.fed close in
-    subst (Appends v y) (one_chunk d t.eaten ∙ sym (all_read d t u s input refl small))
-    (Appends-trans v w y _ _ header (Appends-trans w x y _ _ (t.sent s) closing))
+finished d first None g v w x y last starts header t u s close = tt
+finished d first (Some input) g v w x y last starts header t u s close = λ small.
+    let r = started starts t in
+    let closing : Appends x y (last_text (rows_fed (stream_start d) r.eaten)) = subst (λ (z : Fed Tally). Appends x y (last_text z)) r.fed close in
+    subst (Appends v y) (one_chunk d r.eaten ∙ sym (all_read d r u s input refl small))
+    (Appends-trans v w y _ _ header (Appends-trans w x y _ _ (r.sent s) closing))

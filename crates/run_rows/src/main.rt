@@ -97,7 +97,10 @@ fn run_through<R: Read, W: Write>(
         return first;
     }
     let t = read_through(from, to, first, bytes, out);
-    if t.unread | !t.sent {
+    if t.unread {
+        return t;
+    }
+    if !t.sent {
         return t;
     }
     let place = stream::ended(t.stream, out, 0);

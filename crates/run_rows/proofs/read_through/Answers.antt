@@ -1,44 +1,37 @@
--- `run_rows::read_through` is safe and ends: the slices keep their lengths, and the drive stays sound. The measure is how many turns are left.
+-- `run_rows::read_through` is safe, and what was written is the answer to what was read: each turn reads a chunk more.
 -- Assumes nothing.
-use mathlib.Core.Path.{◌≡◌, refl, ◌∙◌}
-use mathlib.Core.Bool.{true}
-use native.Mathlib.Omega.{arith}
-use lib.ListN.{length}
-use Rattle.drive_record.specs.Record.{sound}
+use Rattle.std.proofs.Common.{refl, sym, ◌∙◌, arith}
+use borrow.Author.Tests.{not-true, not-false}
+use mathlib.Core.Bool.{true≢false}
+use Rattle.run_rows.proofs.Turns.{no_turn, turn_more, turns_enough}
 use Rattle.run_rows.proofs.read_through.Goals as goal
 
 pub turn-t-requires : goal.turn-t-requires
-turn-t-requires c =
-    let r = c.before.before.before.before in
-    let l = r.before.before.before.before in
-    let i = l.loop-turns.invariant in
-    let p = l.before.before.before.requires in
-    (i.2, omega (arith, r.receive-got.auto.0, i.0, i.1, p.1), r.receive-got.ensures)
-
-pub loop-turns-preserved : goal.loop-turns-preserved
-loop-turns-preserved c =
-    let t = c.before.before in
-    let r = t.before.before.before.before.before in
-    let i = r.before.before.before.before.loop-turns.invariant in
-    (r.receive-got.auto.0 ∙ i.0, t.turn-t.auto.1.1.1.0 ∙ i.1, t.turn-t.ensures.0.2)
+turn-t-requires g c =
+    (c.loop-turns.invariant.is_sound, omega (arith, c.receive-got.auto.bytes, c.loop-turns.invariant.chunk, c.loop-turns.invariant.room, c.requires.1), c.receive-got.ensures.size)
 
 pub loop-turns-init : goal.loop-turns-init
-loop-turns-init c = (refl, refl, c.before.before.requires.0)
+loop-turns-init g c = record {
+  chunk = refl;
+  room = refl;
+  is_sound = c.requires.0;
+  through = λ h on. no_turn c.args.first _ _ on;
+}
 
-pub overflow_sub-turns : goal.overflow_sub-turns
-overflow_sub-turns c = let l = c.before.before.before.before.before.before.before.before.before.before in omega (arith, l.loop-turns-test.true)
+pub loop-turns-preserved : goal.loop-turns-preserved
+loop-turns-preserved g c = record {
+  chunk = omega arith;
+  room = omega arith;
+  is_sound = c.turn-t.ensures.stream_value.2;
+  through = λ h on.
+      turn_more _ (c.loop-turns.invariant.through h on) (not-false _ c.if-not-t.false) c.receive-got.ensures.size.1 c.turn-t.ensures.stream_value.0 c.receive-got.ensures.read
+      c.turn-t.ensures.sent_value c.turn-t.ensures.unread_value.1
+      (λ u n. c.receive-got.ensures.end (sym c.turn-t.ensures.unread_value.0 ∙ u) n (omega (arith, c.receive-got.auto.bytes, c.loop-turns.invariant.chunk, h)));
+}
 
-pub loop-turns-smaller : goal.loop-turns-smaller
-loop-turns-smaller c = let l = c.before.before.before.before.before.before.before.before.before.before in omega (arith, l.loop-turns-test.true)
+pub returns-after-loop-turns : goal.returns-after-loop-turns
+returns-after-loop-turns g c = λ h on. turns_enough _ (c.loop-turns.invariant.through h on) (λ e. c.loop-turns-test.false)
 
-pub shape_of-bytes-else-t : goal.shape_of-bytes-else-t
-shape_of-bytes-else-t c = c.before.before.loop-turns.invariant.0
-
-pub shape_of-out-else-t : goal.shape_of-out-else-t
-shape_of-out-else-t c = c.before.before.loop-turns.invariant.1
-
-pub shape_of-bytes-after-loop-turns : goal.shape_of-bytes-after-loop-turns
-shape_of-bytes-after-loop-turns c = c.before.loop-turns.invariant.0
-
-pub shape_of-out-after-loop-turns : goal.shape_of-out-after-loop-turns
-shape_of-out-after-loop-turns c = c.before.loop-turns.invariant.1
+pub returns-then-not-t : goal.returns-then-not-t
+returns-then-not-t g c = λ h on.
+    turns_enough _ (c.loop-turns.invariant.through h on) (λ e. absurd (true≢false (sym e ∙ not-true _ c.if-not-t.true)))
