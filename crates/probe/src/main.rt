@@ -2,12 +2,13 @@
 // model of the drive, in any language, can be held against it word by word.
 #![tactic(auto)]
 
-ghost use Rattle.std.specs.Prelude.{◌≡◌, ◌+◌, ◌*◌, ◌≤◌, cond, not, ◌&&◌, [], ltb, pos, length, take, replicate};
+ghost use Rattle.std.specs.Prelude.{◌≡◌, ◌+◌, ◌*◌, ◌<◌, ◌≤◌, true, false, cond, not, ◌&&◌, [], ltb, pos, length, take, replicate, IfSome};
 ghost use Rattle.pipes.specs.Counts.{IsPrefixLen};
 ghost use Rattle.writing.specs.Decimal.{bad_text, written};
-ghost use Rattle.feeding.specs.Lines.{one_more};
+ghost use Rattle.feeding.specs.Lines.{one_more, good_lines, ends_bad, after_all};
 ghost use Rattle.feeding.specs.Feeding.{line_due, fed_of};
 ghost use Rattle.probe.specs.Calls.{most, call_by, is_call, calls_after, as_fed};
+ghost use Rattle.probe.specs.Through.{Through};
 
 use drive::{Answered, Made};
 use drive_record::{Command, Drive, Integrals};
@@ -349,7 +350,7 @@ fn turn<W: Write>(to: &mut W, s: Calls, got: Got, bytes: &[u8], out: &mut [u8]) 
 }
 
 // Turn by turn, until a line came that is no call, the input is over, or a read or a write failed.
-// A proved loop has to end, and nothing says that the input does: so the turns are counted, from a number that no run uses up.
+// A proved loop has to end, and nothing says that the input does: so the turns are counted, up to a number that no run uses up.
 fn read_through<R: Read, W: Write>(
     from: &mut R,
     to: &mut W,
@@ -358,9 +359,11 @@ fn read_through<R: Read, W: Write>(
     out: &mut [u8],
 ) -> Turned
     requires { 264 * length bytes.old ≤ length out.old }
+    ensures { 0 < length bytes.old → first.going ≡ true
+        → Through (as_fed first.calls) (R.remaining from.old) (R.remaining from.new) result 18446744073709551615 }
 {
     let mut t = first;
-    for _ in 0..u64::MAX {
+    for turns in 0..u64::MAX {
         if !t.going {
             break;
         }
@@ -370,30 +373,52 @@ fn read_through<R: Read, W: Write>(
     t
 }
 
-// Where a read or a write failed words on standard error say so.
-fn main(rt: HostRuntime) {
-    let mut bytes = [0u8; 256];
-    // 264 places for each of them, as `fed` asks
-    let mut out = [0u8; 67584];
+// All the calls, and what is written last; where a read failed nothing is. So where all of an input was read, and all that was written was sent, there were as
+// many calls as it has lines that are calls, up to the first that is none, and whether one is none stands there too.
+fn run_through<R: Read, W: Write>(
+    from: &mut R,
+    to: &mut W,
+    bytes: &mut [u8],
+    out: &mut [u8],
+) -> Turned
+    requires { (0 < length bytes.old) × (264 * length bytes.old ≤ length out.old) }
+    ensures { result.unread ≡ false → result.sent ≡ true → IfSome (R.remaining from.old) (λ input. length input < 18446744073709551615
+        → (result.calls.before ≡ after_all calls_after 0 (good_lines is_call input)) × (result.calls.begun ≡ ends_bad is_call input)) }
+{
     let first = Turned {
         calls: start(),
         unread: false,
         sent: true,
         going: true,
     };
-    let t = read_through(
-        &mut rt.stdin(),
-        &mut rt.stdout(),
-        first,
-        &mut bytes,
-        &mut out,
-    );
+    let t = read_through(from, to, first, bytes, out);
+    if t.unread {
+        return t;
+    }
+    if !t.sent {
+        return t;
+    }
+    let place = ended(t.calls, out);
+    let sent = pipes::send(to, out, place);
+    Turned {
+        calls: t.calls,
+        unread: false,
+        sent: sent,
+        going: false,
+    }
+}
+
+// Where a read or a write failed words on standard error say so.
+fn main(rt: HostRuntime) {
+    let mut bytes = [0u8; 256];
+    // 264 places for each of them, as `fed` asks
+    let mut out = [0u8; 67584];
+    let t = run_through(&mut rt.stdin(), &mut rt.stdout(), &mut bytes, &mut out);
     if t.unread {
         pipes::unread(&mut rt.stderr(), b"probe");
         return;
     }
-    let place = ended(t.calls, &mut out);
-    if !(t.sent && pipes::send(&mut rt.stdout(), &out, place)) {
+    if !t.sent {
         pipes::unsent(&mut rt.stderr(), b"probe");
     }
 }
