@@ -1,6 +1,5 @@
 -- `moments::row_in` meets its contract.
 -- Assumes nothing.
-use borrow.Author.Rules.{rules}
 use lib.IntN.{pos}
 use lib.ListN.{get_or}
 use Rattle.fixed.proofs.Reading.{read_ok32}

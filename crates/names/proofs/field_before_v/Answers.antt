@@ -1,7 +1,6 @@
 -- `names::field_before_v` meets its contract: one of a few numbers is left in each place, and the entry of that number is what is made there.
 -- Assumes nothing.
 use mathlib.Core.Path.{◌∙◌}
-use borrow.Author.Rules.{rules}
 use native.Mathlib.Omega.{arith}
 use Rattle.settings.specs.Words.{entries}
 use Rattle.names.specs.Names.{field_of}

@@ -1,5 +1,4 @@
 -- `recorder::emptied` meets its contract. Assumes nothing.
-use borrow.Author.Rules.{rules}
 use mathlib.Core.Path.{◌∙◌, ap}
 use mir.Facts.{to_z-of_z}
 use mir.Syntax.{w32}

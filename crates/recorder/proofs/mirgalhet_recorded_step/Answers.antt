@@ -3,7 +3,7 @@
 use Rattle.std.proofs.Common.{◌≡◌, ap, ◌∙◌}
 use Rattle.fixed.proofs.Equal.{ap₃}
 use Rattle.fixed.proofs.Reading.{word}
-use Rattle.moments.specs.Moments.{kept, row_of}
+use Rattle.moments.specs.Moments.{kept}
 use Rattle.interrupt.specs.Interrupt.{output_of}
 use Rattle.recorder.specs.declared.Noted.{Noted}
 use Rattle.recorder.specs.Recorder.{noted, stored}

@@ -1,6 +1,5 @@
 -- `ring::place_after` meets its contract.
 -- Assumes nothing.
-use borrow.Author.Rules.{rules}
 use borrow.Author.Tests.{lt-ltb, le-ltb}
 use Rattle.ring.specs.Ring.{place_after}
 use Rattle.ring.proofs.place_after.Goals as goal

@@ -1,6 +1,5 @@
 -- `ring::place_of_row` meets its contract.
 -- Assumes nothing.
-use borrow.Author.Rules.{rules}
 use borrow.Author.Tests.{lt-ltb, le-ltb}
 use Rattle.ring.specs.Ring.{place_of_row}
 use Rattle.ring.proofs.place_of_row.Goals as goal

@@ -1,6 +1,5 @@
 -- `rows::row_step` meets its contract: on a sound record a step is what `drive::step_sound` does.
 -- Assumes nothing.
-use borrow.Author.Rules.{rules}
 use mathlib.Core.Path.{◌∙◌, sym}
 use Prim.Native.Nat.{◌+◌, ◌*◌}
 use lib.IntN.{pos}

@@ -1,11 +1,7 @@
 -- `rows::rows_run` meets its contract. The measure is how many rows are left.
 -- Assumes nothing.
-use mathlib.Core.Path.{◌≡◌, refl}
 use Prim.Native.Nat.{◌-◌}
-use native.Mathlib.Omega.{arith}
-use Rattle.drive_record.proofs.Ranges.{sound→, sound←}
-use Rattle.rows.proofs.Runs.{Upto, more, one_most}
-use Rattle.rows.specs.Rows.{is_accepted, is_clipped, no_rows, ran_of, written_of}
+use Rattle.rows.proofs.Runs.{Upto}
 use Rattle.rows.proofs.rows_run.Given as goal
 
 abbrev pub invariant-loop-i : goal.invariant-loop-i

@@ -1,12 +1,11 @@
 -- `rows::run` meets its contract: a record whose settings are refused is broken, and so is one with a word out of range; past both tests it is sound.
 -- Assumes nothing.
-use Rattle.std.proofs.Common.{◌≡◌, refl, ap, sym, ◌∙◌, true, false, not, arith, length}
+use Rattle.std.proofs.Common.{◌≡◌, refl, ap, sym, true, not, arith}
 use Rattle.drive_record.specs.Record.{sound, broken}
 use Rattle.fixed.proofs.Asked.{no, yes}
 use Rattle.settings.proofs.Ranges.{checked_accepted}
 use Rattle.drive_record.proofs.Ranges.{sound_parts, words_broken}
 use Rattle.drive.proofs.CallLaws.{refused_broken}
-use Rattle.rows.specs.Rows.{rows_fit}
 use Rattle.rows.proofs.Outcomes.{room, run_14, run_9, run_0}
 use Rattle.rows.proofs.run.Goals as goal
 

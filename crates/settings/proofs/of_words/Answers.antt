@@ -1,6 +1,5 @@
 -- `settings::of_words` meets its contract.
 -- Assumes nothing.
-use borrow.Author.Rules.{rules}
 use Rattle.fixed.proofs.Reading.{read_ok32}
 use Rattle.settings.specs.Words.{settings_of}
 use Rattle.settings.proofs.of_words.Goals as goal

@@ -1,7 +1,7 @@
 -- `sine::quarter` meets its contract: what each arm of the match answers is what the checker computes from the ladder for its number.
 -- Assumes nothing.
 use mathlib.Core.Path.{◌≡◌, ap, sym}
-use Prim.Native.Nat.{ℕ, zero, suc, ◌≤◌}
+use Prim.Native.Nat.{ℕ}
 use native.Mathlib.Omega.{arith}
 use lib.IntN.{pos}
 use lib.ListN.{get_or}

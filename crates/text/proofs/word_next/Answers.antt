@@ -1,6 +1,5 @@
 -- `text::word_next` meets its contract.
 -- Assumes nothing.
-use borrow.Author.Rules.{rules}
 use borrow.Author.Tests.{leb-true}
 use Rattle.fixed.proofs.HeldLaws.{and_left}
 use Rattle.text.specs.Automaton.{word_next, digit_next, other_next}
