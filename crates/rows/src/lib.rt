@@ -124,7 +124,8 @@ pub fn run(d: Drive, samples: &[i32], out: &mut [i32]) -> Ran
     let Checked::Accepted(_) = settings::check(d.settings) else {
         return no_rows(d, 14);
     };
-    let broken = !drive_record::words_ok(d);
+    let words_stand = drive_record::words_ok(d);
+    let broken = !words_stand;
     if broken {
         return no_rows(d, 14);
     }
