@@ -1,5 +1,5 @@
 -- What is said of a read and a write.
-use Rattle.std.specs.Prelude.{◌≡◌, ℕ, ◌≤◌, List, length, take, Option}
+use Rattle.std.specs.Prelude.{◌≡◌, ℕ, ◌<◌, ◌≤◌, List, length, take, Option}
 use Rattle.std.specs.Io.KnownBytes.{Appends}
 
 -- so many bytes are that many: they are within what there is, and taking them takes none less
@@ -9,3 +9,7 @@ IsPrefixLen n xs = (n ≤ length xs) × (n ≡ length (take n xs))
 -- of so many bytes a writer took some front, and nothing else
 abbrev pub AppendsFront : Option (List ℕ) → Option (List ℕ) → List ℕ → ℕ → Type 0
 AppendsFront old new xs most = (n : ℕ) × (n ≤ most) × Appends old new (take n xs)
+
+-- and fewer than so many
+abbrev pub AppendsLess : Option (List ℕ) → Option (List ℕ) → List ℕ → ℕ → Type 0
+AppendsLess old new xs all = (n : ℕ) × (n < all) × Appends old new (take n xs)

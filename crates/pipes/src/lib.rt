@@ -5,7 +5,7 @@
 
 ghost use Rattle.std.specs.Prelude.{◌≡◌, ◌<◌, ◌≤◌, true, false, length, take};
 ghost use Rattle.std.specs.Io.KnownBytes.{Appends, Consumes, IsAtEnd};
-ghost use Rattle.pipes.specs.Counts.{AppendsFront, IsPrefixLen};
+ghost use Rattle.pipes.specs.Counts.{AppendsFront, AppendsLess, IsPrefixLen};
 
 use std::io::{Read, Write};
 
@@ -38,6 +38,7 @@ pub fn receive<R: Read>(from: &mut R, bytes: &mut [u8]) -> Got
 // All of the bytes, in as many writes as it takes, and whether they went through; it stops at the first write that takes nothing or fails.
 fn write_all<W: Write>(to: &mut W, bytes: &[u8]) -> bool
     ensures all { result ≡ true → Appends (W.contents to.old) (W.contents to.new) bytes.now }
+    ensures less { result ≡ false → AppendsLess (W.contents to.old) (W.contents to.new) bytes.now (length bytes.now) }
     ensures part { AppendsFront (W.contents to.old) (W.contents to.new) bytes.now (length bytes.now) }
 {
     let mut done = 0;
@@ -56,15 +57,17 @@ fn write_all<W: Write>(to: &mut W, bytes: &[u8]) -> bool
 fn hand<W: Write>(to: &mut W, bytes: &[u8], place: usize) -> bool
     requires { place ≤ length bytes.now }
     ensures all { result ≡ true → Appends (W.contents to.old) (W.contents to.new) (take place bytes.now) }
+    ensures less { result ≡ false → AppendsLess (W.contents to.old) (W.contents to.new) bytes.now place }
     ensures part { AppendsFront (W.contents to.old) (W.contents to.new) bytes.now place }
 {
     write_all(to, &bytes[..place])
 }
 
-// The first so many bytes, and whether all of them were taken.
+// The first so many bytes, and whether all of them were taken: where not, fewer were.
 pub fn send<W: Write>(to: &mut W, out: &[u8], place: usize) -> bool
     requires { place ≤ length out.now }
     ensures all { result ≡ true → Appends (W.contents to.old) (W.contents to.new) (take place out.now) }
+    ensures less { result ≡ false → AppendsLess (W.contents to.old) (W.contents to.new) out.now place }
     ensures part { AppendsFront (W.contents to.old) (W.contents to.new) out.now place }
 {
     hand(to, out, place)
