@@ -44,7 +44,8 @@ read_length o bs = end_length _ _ ∙ all_length _ bs
 -- ════ one byte
 module _ (r : Reading) (chunk : List ℕ) (i : ℕ) where
   -- a line feed ends it
-  pub part_end : i < length chunk → get_or chunk i 0 ≡ 10 → part_of r (drop i chunk) ≡ record { reading = read_end r; ended = true; behind = drop (i + 1) chunk }
+  pub part_end : i < length chunk → get_or chunk i 0 ≡ 10 → part_of r
+      (drop i chunk) ≡ record { reading = read_end r; ended = true; behind = drop (i + 1) chunk }
   unfolding part_of
   part_end h e = rw (drop-cons chunk i 0 h, add-one i, eq-eqb (get_or chunk i 0) 10 e) refl
 

@@ -34,7 +34,8 @@ angle_size f i = in_size angles f.angle i.angle
 pub still_in : FieldIn still
 still_in = record { fine = refl; angle = refl }
 
-pub followed_in : (kr kt kth : ℤ) (f : Field) (d q n : ℤ) → pos 0 ≤ℤ kr → kr ≤ℤ pos 4096 → FieldIn f → nat_abs d ≤ flux_end → FieldIn (followed kr kt kth f d q n)
+pub followed_in : (kr kt kth : ℤ) (f : Field) (d q n : ℤ) → pos 0 ≤ℤ kr → kr ≤ℤ pos 4096 → FieldIn f → nat_abs d ≤ flux_end → FieldIn
+    (followed kr kt kth f d q n)
 unfolding followed
 followed_in kr kt kth f d q n k0 k1 i h = record {
   fine = within_of fine_end (fine_next kr f.fine d) (law.fine_size kr f.fine d k0 k1 (fine_size f i) h);

@@ -76,7 +76,8 @@ pub one_least : (u t f g m n a b : ℕ) → Asked u t f g m n a b → t * f < (f
 one_least u t f g m n a b h =
     let k : m * t + 1 ≤ (m + n) * a + (m + n) = omega (arith, h.shares.one.high) in
     let c = in-proportion u t g f n m h.some h.second h.first in
-    let l : (m + n) * (t * f) < (m + n) * ((f + g) * a + (f + g) + g) = omega (arith, words u t f g m n a b h, mul-le-mul_left (f + g) k, mul-le-mul_left t c, mul-le-mul_left g h.over) in
+    let l : (m + n) * (t * f) < (m + n) * ((f + g) * a + (f + g) + g) = omega
+    (arith, words u t f g m n a b h, mul-le-mul_left (f + g) k, mul-le-mul_left t c, mul-le-mul_left g h.over) in
     lt_of_mul-lt-mul_left (m + n) l
 
 -- and both together near t

@@ -84,7 +84,7 @@ reads m rs h =
     let many : real_rows m ≡ min (length rs) 128 = sym (read_rows m) ∙ ap length h.read ∙ last128_long rs in
     record {
       how_many = many;
-      oldest_first_lem = h.read;
+      oldest_first = h.read;
       each = λ i l.
           let real : i < real_rows m = omega arith in
           rw (lt-ltb i (real_rows m) real, ← h.read, read_at m i real) refl;

@@ -15,7 +15,7 @@ use Rattle.moments.specs.Recordings.{Call, after_all, noted_all, read_all, Rings
 -- of those; past them there is 19
 pub record Reads (m : Moments) (rows : List Row) : Type 0 where
   pub how_many : real_rows m ≡ min (length rows) 128
-  pub oldest_first_lem : read_all m ≡ last128 rows
+  pub oldest_first : read_all m ≡ last128 rows
   pub each : (i : ℕ) → i < min (length rows) 128 → moment_at m (pos i) ≡ found (pos 0) (get_or (last128 rows) i no_row)
   pub past_them : (i : ℕ) → min (length rows) 128 ≤ i → moment_at m (pos i) ≡ past
 

@@ -61,7 +61,8 @@ module _ {s : Calls} {chunk : List ℕ} {cur : Calls} {i j : ℕ} {l : Line} {ns
       Upto is_call calls_after (as_fed s) chunk (as_fed (record { before = n; line = start; numbers = ns; begun = false; stopped = cur.stopped })) j
   unfolding calls_after
   call_taken y en es =
-      subst (λ (x : Fed ℕ). Upto is_call calls_after (as_fed s) chunk x j) (rw (en, es, g) refl) (upto_good is_call calls_after u h g m e refl (is_good_lem ∙ y))
+      subst (λ (x : Fed ℕ). Upto is_call calls_after (as_fed s) chunk x j) (rw (en, es, g) refl)
+      (upto_good is_call calls_after u h g m e refl (is_good_lem ∙ y))
 
   -- they end none, or the line goes on
   pub none_taken : ended && (not l.bad && call_by ns l.count) ≡ false →

@@ -91,7 +91,8 @@ all_read first {f} {g} {last} t u s input is small =
     ended (Some ys) c h = t.fed ∙ ap (fed_of is_call calls_after first) (sym (c ∙ ap (λ (l : List ℕ). t.eaten ++ l) h ∙ append-nil t.eaten))
 
 -- by the grammar: how many calls there are before a bad line, and whether one ends them
-pub counted : (first : Fed ℕ) (f g : Option (List ℕ)) (last : Turned) → first ≡ line_due 0 (replicate most (pos 0)) → Through first f g last 18446744073709551615
+pub counted : (first : Fed ℕ) (f g : Option (List ℕ)) (last : Turned) → first ≡ line_due 0 (replicate most (pos 0))
+    → Through first f g last 18446744073709551615
     → last.unread ≡ false → last.sent ≡ true
     → IfSome f (λ input. length input < 18446744073709551615
     → (last.calls.before ≡ after_all calls_after 0 (good_lines is_call input)) × (last.calls.begun ≡ ends_bad is_call input))

@@ -373,8 +373,9 @@ fn read_through<R: Read, W: Write>(
     t
 }
 
-// All the calls, and what is written last; where a read failed nothing is. So where all of an input was read, and all that was written was sent, there were as
-// many calls as it has lines that are calls, up to the first that is none, and whether one is none stands there too.
+// All the calls, and what is written last; where a read failed nothing is. So where all of an input was read, of fewer than 2^64 − 1
+// bytes, and all that was written was sent, there were as many calls as it has lines that are calls, up to the first that is none, and
+// whether one is none stands there too.
 fn run_through<R: Read, W: Write>(
     from: &mut R,
     to: &mut W,

@@ -15,7 +15,8 @@ use Rattle.modulation.proofs.Cases.{clipped_case}
 use Rattle.settings.proofs.Ranges.{checked_refused}
 use Rattle.drive_record.specs.Record.{target_end, broken}
 use Rattle.drive_record.proofs.Ranges.{not_broken}
-use Rattle.stages.specs.Step.{ramped_by, with_torque, with_shaft, with_command, commanded, rules_1_and_2, currents, with_field, outcome, rules_6_to_9, rules_3_to_9, advanced}
+use Rattle.stages.specs.Step.{ramped_by, with_torque, with_shaft, with_command, commanded, rules_1_and_2, currents, with_field, outcome, rules_6_to_9}
+use Rattle.stages.specs.Step.{rules_3_to_9, advanced}
 use Rattle.stages.specs.Step.{field_after, current_gains, current_regulated, d_regulated, q_regulated, voltage_of, voltage_for}
 use Rattle.stages.proofs.AtBench as value
 use Rattle.drive.specs.Calls.{fresh, with_trip, retargeted, with_target, stepped}
@@ -141,7 +142,12 @@ quiet_met =
     let w = waiting (pos 100) in
     let b = ready (pos 100) refl in
     let a = after_tick (pos 100) refl in
-    let q : Quiet w quiet = rw (after_call, (target_table_lem w (pos 8192)).then 2 (b, (refl, targets.1)), (clear_table_lem w).then 1 (b, refl), (run_of_none w [] b).0)
+    let q : Quiet w quiet = rw (
+      after_call,
+      (target_table_lem w (pos 8192)).then 2 (b, (refl, targets.1)),
+      (clear_table_lem w).then 1 (b, refl),
+      (run_of_none w [] b).0,
+    )
     (refl, refl, (refl, refl, (refl, refl, (a.0, a.1, tt)))) in
     record { intact = b; untripped = refl; calls = q; none_clears = quiet_no_clear w quiet b refl q }
 

@@ -13,7 +13,8 @@ use Rattle.drive_record.specs.declared.Drive.{Drive}
 use Rattle.fixed.specs.Fixed.{inside}
 use Rattle.drive_record.specs.Record.{broken, target_end}
 use Rattle.drive_record.proofs.Ranges.{Sound, not_broken}
-use Rattle.stages.specs.Step.{ramped_by, with_torque, with_shaft, with_command, commanded, rules_1_and_2, with_field, outcome, rules_6_to_9, rules_3_to_9, advanced}
+use Rattle.stages.specs.Step.{ramped_by, with_torque, with_shaft, with_command, commanded, rules_1_and_2, with_field, outcome, rules_6_to_9, rules_3_to_9}
+use Rattle.stages.specs.Step.{advanced}
 use Rattle.drive.specs.Calls.{with_trip, refused, stepped, retargeted, with_target, targeted}
 use Rattle.rows.specs.Rows.{row_stepped, is_accepted, one, no_rows, after_row, ran_of, rows_in, rows_fit, run_of}
 use Rattle.rows.proofs.Runs.{rows_sound}

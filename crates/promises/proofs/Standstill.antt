@@ -16,7 +16,8 @@ use Rattle.shaft.proofs.Standing.{Stands, counted_stands, measured_stands}
 use Rattle.settings.specs.BenchSettings.{bench_settings}
 use Rattle.drive_record.specs.declared.Drive.{Drive}
 use Rattle.drive_record.proofs.Ranges.{Sound, not_broken}
-use Rattle.stages.specs.Step.{with_shaft, with_command, commanded, rules_1_and_2, currents, field_after, with_field, outcome, rules_6_to_9, rules_3_to_9, advanced}
+use Rattle.stages.specs.Step.{with_shaft, with_command, commanded, rules_1_and_2, currents, field_after, with_field, outcome, rules_6_to_9, rules_3_to_9}
+use Rattle.stages.specs.Step.{advanced}
 use Rattle.stages.proofs.AtBench as value
 use Rattle.drive.specs.Calls.{fresh, stepped}
 use Rattle.drive.proofs.Kept.{stepped_sound_lem}

@@ -1,6 +1,7 @@
 -- Read after read is gathered, and what is said of it is said of the whole input.
 -- Assumes nothing.
-use Rattle.std.proofs.Common.{◌≡◌, ℕ, ◌+◌, ◌≤◌, ◌<◌, List, [], ◌++◌, length, take, drop, refl, sym, ap, subst, ◌∙◌, arith, append_assoc, append-nil, length-append}
+use Rattle.std.proofs.Common.{◌≡◌, ℕ, ◌+◌, ◌≤◌, ◌<◌, List, [], ◌++◌, length, take, drop, refl, sym, ap, subst, ◌∙◌, arith, append_assoc, append-nil}
+use Rattle.std.proofs.Common.{length-append}
 use Rattle.std.specs.Prelude.{Option, None, Some, true, false, ltb, IfSome}
 use Rattle.std.specs.Io.KnownBytes.{Appends, Consumes, IsAtEnd}
 use Rattle.std.proofs.KnownBytes.{Consumes-nil, Consumes-trans}
@@ -27,7 +28,8 @@ front_longer : (o bs : List ℕ) (at : ℕ) → at ≤ length o → take (at + l
 unfolding written
 front_longer o bs at h =
     rw (← append_assoc (take at o) bs (drop (at + length bs) o))
-    (take_at (take at o ++ bs) (drop (at + length bs) o) (at + length bs) (length-append (take at o) bs ∙ ap (λ (n : ℕ). n + length bs) (length-take-le at o h)))
+    (take_at (take at o ++ bs) (drop (at + length bs) o) (at + length bs)
+    (length-append (take at o) bs ∙ ap (λ (n : ℕ). n + length bs) (length-take-le at o h)))
 
 -- nothing yet
 pub gathering_none : (f : Option (List ℕ)) (text : List ℕ) (g : Gathered) → g.size ≡ 0 → g.going ≡ true → Gathering f f text g
@@ -56,7 +58,8 @@ gathering_more {f} {g} {h} {text} {next} {last} {now} {n} chunk t low size read 
     none e = by_order 0 n (λ l. absurd (true≢false (sym (lt-ltb 0 n l) ∙ sym going ∙ e))) (λ l. omega arith)
 
 -- what is said of what was read is said of the input: it is all of it, or it is enough
-pub said : {f g : Option (List ℕ)} {text : List ℕ} {last : Gathered} (t : Gathering f g text last) → (last.going ≡ true → 3072 < last.size) → last.unread ≡ false
+pub said : {f g : Option (List ℕ)} {text : List ℕ} {last : Gathered} (t : Gathering f g text last) → (last.going ≡ true → 3072 < last.size)
+    → last.unread ≡ false
     → (input : List ℕ) → f ≡ Some input → answer_text t.eaten ≡ answer_text input
 said {f} {g} {text} {last} t enough u input is =
     let c = subst (λ (o : Option (List ℕ)). Consumes o g t.eaten) is t.read in

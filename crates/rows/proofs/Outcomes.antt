@@ -37,7 +37,8 @@ module _ (d : Drive) (samples out : List ℤ) where
   unfolding run_of output_after
   run_14 b = (simp b, simp b)
 
-  pub run_9 : broken d ≡ false → rows_fit (length samples) (length out) ≡ false → (run_of d samples out ≡ no_rows d (pos 9)) × (output_after d samples out ≡ out)
+  pub run_9 : broken d ≡ false → rows_fit (length samples) (length out) ≡ false → (run_of d samples out ≡ no_rows d (pos 9)) ×
+      (output_after d samples out ≡ out)
   unfolding run_of output_after
   run_9 b f = (simp (b, f), simp (b, f))
 

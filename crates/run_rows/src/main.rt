@@ -72,8 +72,8 @@ fn read_through<R: Read, W: Write>(
     t
 }
 
-// The run: the header, the answers as the rows come, and the totals; where a read or a write failed no totals. So if all of an input was read, and all that was
-// written was sent, that is what `program_text` says of the input as a whole.
+// The run: the header, the answers as the rows come, and the totals; where a read or a write failed no totals. So if all of an input was read, of fewer than
+// 2^64 − 1 bytes, and all that was written was sent, that is what `program_text` says of the input as a whole.
 fn run_through<R: Read, W: Write>(
     from: &mut R,
     to: &mut W,
@@ -113,7 +113,7 @@ fn run_through<R: Read, W: Write>(
     }
 }
 
-// What is said of a line that is no row, on standard error: 15 bytes, any count, 14 bytes. Standard output has its number too, but a
+// What is said of a line that is no row, on standard error: 15 bytes, any count, 14 bytes. Standard output has its number too, but the
 // program hands back no status, and whoever started it has only these words to go by.
 fn tell_bad<W: Write>(to: &mut W, s: Stream, out: &mut [u8])
     requires { 49 ≤ length out.old }

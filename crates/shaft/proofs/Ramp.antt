@@ -13,7 +13,8 @@ use Rattle.shaft.specs.Shaft.{ramped_to, ramped}
 
 -- the three ways of a move: R down, R up, onto the target
 pub ramp_cases : (Q : ℤ → Type 0) (reference target r : ℤ) → (target <ℤ (reference -ℤ r) → Q (reference -ℤ r))
-    → ((reference +ℤ r) <ℤ target → Q (reference +ℤ r)) → ((reference -ℤ r) ≤ℤ target → target ≤ℤ (reference +ℤ r) → Q target) → Q (ramped_to reference target r)
+    → ((reference +ℤ r) <ℤ target → Q (reference +ℤ r)) → ((reference -ℤ r) ≤ℤ target → target ≤ℤ (reference +ℤ r) → Q target) → Q
+    (ramped_to reference target r)
 unfolding ramped_to
 ramp_cases Q reference target r f g h = held_cases Q target (reference -ℤ r) (reference +ℤ r) f (λ a b. g b) h
 

@@ -1,7 +1,8 @@
 -- The window of rule 2: a movement is a signed 16-bit number whatever the two counts are, so that the sum of a window stays
 -- within ±32768 times its steps; a step that is no 30th leaves at most 29 of them; the speed of a window is held to ±16383.
 -- Assumes nothing.
-use Rattle.std.proofs.Common.{◌≡◌, suc, ◌*◌, ◌≤◌, true, false, T, ◌↔◌, ℤ, pos, negsuc, ◌+ℤ◌, ◌-ℤ◌, ◌*ℤ◌, neg_ℤ, nat_abs, ◌≤ℤ◌, ◌<ℤ◌, sym, ap, ◌∙◌, subst, ⊎_elim, eq-or-lt_of_le, arith}
+use Rattle.std.proofs.Common.{◌≡◌, suc, ◌*◌, ◌≤◌, true, false, T, ◌↔◌, ℤ, pos, negsuc, ◌+ℤ◌, ◌-ℤ◌, ◌*ℤ◌, neg_ℤ, nat_abs, ◌≤ℤ◌, ◌<ℤ◌, sym, ap, ◌∙◌, subst}
+use Rattle.std.proofs.Common.{⊎_elim, eq-or-lt_of_le, arith}
 use lib.Signed.{lt_z, lt_z_yes, lt_z_no, pos-nat_abs, yes_non_neg}
 use Rattle.fixed.specs.Fixed.{down, modulo}
 use Rattle.fixed.proofs.Parts.{cond_ind, order, parts-+, parts--}

@@ -102,7 +102,8 @@ up : (z : ℤ) → pos 0 ≤ℤ z → pos (nat_abs z) ≡ z
 up (pos n) h = refl
 up (negsuc n) h = absurd h.le
 
-lines_back : (i : ℕ) (es : List Entry) (zs : List ℤ) → plain 10 es ≡ true → modest es ≡ true → all_in es zs ≡ true → read_lines i es (lines_text es zs) ≡ words zs
+lines_back : (i : ℕ) (es : List Entry) (zs : List ℤ) → plain 10 es ≡ true → modest es ≡ true → all_in es zs ≡ true → read_lines i es
+    (lines_text es zs) ≡ words zs
 unfolding plain modest all_in read_lines lines_text with_first and_then
 lines_back i [] [] p m r = refl
 lines_back i [] (z ∷ zs) p m r = absurd (true≢false (sym r))

@@ -1,4 +1,4 @@
-// The sheet of a motor's settings: text that is read, and text that is written; and both for C.
+// The sheet of a motor's settings: text that is read, and text that is written; and both as C has them, with a buffer.
 #![tactic(auto)]
 
 ghost use Rattle.std.specs.Prelude.{◌≡◌, true, ◌+◌, ◌*◌, ◌≤◌, ◌<◌, pos, length, take};

@@ -42,7 +42,13 @@ pub record Telling (s : Stream) (chunk : List ℕ) (at : ℕ) (o out : List ℕ)
 pub telling_start : (s : Stream) (chunk : List ℕ) (at : ℕ) (o : List ℕ)
     → Sound s.tally.drive → length s.row ≡ 3 → at + 48 * length chunk ≤ length o → Telling s chunk at o o s at 0
 telling_start s chunk at o h w r =
-    record { is_sound = h; wide = w; upto = upto_start is_row tally_of (as_fed s) chunk; wrote = wrote_start is_row tally_of answer_text (as_fed s) chunk at o r }
+    record {
+      is_sound = h;
+      wide = w;
+      upto = upto_start is_row tally_of (as_fed s) chunk;
+      wrote = wrote_start is_row tally_of answer_text
+          (as_fed s) chunk at o r;
+    }
 
 -- the bytes up to the place j went to the line, which is l with the numbers ns after them
 module _ {s : Stream} {chunk : List ℕ} {at : ℕ} {o out : List ℕ} {cur : Stream} {place i j : ℕ} {l : Line} {ns : List ℤ} {ended : Bool}

@@ -7,7 +7,8 @@ use Rattle.text.specs.Grammar.{all_digits, value_of}
 use Rattle.writing.specs.Decimal.{decimal, count_text}
 use Rattle.values.specs.declared.Number.{Number}
 use Rattle.values.specs.declared.Number.TheVariants.{Is, Wrong}
-use Rattle.values.specs.Value.{fraction_digits, fraction_text, gain_text, digits_of, zero_in_front, whole_of, zero_behind, ths_of, fraction_of, before, sum, gain_of}
+use Rattle.values.specs.Value.{fraction_digits, fraction_text, gain_text, digits_of, zero_in_front, whole_of, zero_behind, ths_of, fraction_of, before, sum}
+use Rattle.values.specs.Value.{gain_of}
 
 -- ════ values
 wholes_texts : List (List ℕ)

@@ -161,3 +161,6 @@ summands a b = record { left = λ w e. whole_less a w e; right = λ f e. (fracti
 
 pub summands_none : (a : List ℕ) → Summands (whole_of a) (Is 0)
 summands_none a = record { left = λ w e. whole_less a w e; right = λ f e. let z : 0 ≡ f = cc in omega (arith, z) }
+
+-- a fraction's cases, and that its digits are small enough to count with
+pub ruleset fractions = (fraction_none, fraction_zero, fraction_other, digits_small)

@@ -336,7 +336,8 @@ division_digits zero f l = rw (no_room f) refl
 division_digits (suc k) f l =
     let d = 48 + f * 10 / 4096 in
     ⊎_elim
-    (λ h. rw (digit_next_lem k f h) (and_both (and_both (le-leb 48 d (omega arith)) (le-leb d 57 (omega arith))) (division_digits k (f * 10 % 4096) (omega arith))))
+    (λ h. rw (digit_next_lem k f h) (and_both (and_both (le-leb 48 d (omega arith)) (le-leb d 57 (omega arith)))
+    (division_digits k (f * 10 % 4096) (omega arith))))
     (λ h. rw (none_at (suc k) f h) refl)
     (less_or_not 0 f)
 

@@ -113,7 +113,7 @@ fn ths(v: u64, n: usize) -> Number
 }
 
 // What stands behind a point: one to twelve digits, the last of them no zero, that make a whole number of 4096ths.
-#[tactic(auto, using(crate::proofs::CodeLaws::fraction_none, crate::proofs::CodeLaws::fraction_zero, crate::proofs::CodeLaws::fraction_other, crate::proofs::CodeLaws::digits_small))]
+#[tactic(auto, using(crate::proofs::CodeLaws::fractions))]
 fn fraction(s: &[u8]) -> Number
     ensures { result ≡ fraction_of s.now }
 {

@@ -23,4 +23,8 @@ returns c =
 pub integrals_ok_spec : {M : Type 1} → statement M
 integrals_ok_spec =
     tie.close
-    (tie.spec (λ c. fits (field (back c.before.before).q) tt) (λ c κs. bound (wide (back c.before.before.before).q) tt) (λ c. fits (field (back c.before.before.before.before.before.before).v) tt) (λ c κs. bound (wide (back c.before.before.before.before.before.before.before).v) tt) (λ c. fits (field (back c.before.before.before.before.before.before.before.before.before.before).v) tt) (λ c κs. bound (wide (back c.before.before.before.before.before.before.before.before.before.before.before).v) tt) returns)
+    (tie.spec (λ c. fits (field (back c.before.before).q) tt) (λ c κs. bound (wide (back c.before.before.before).q) tt)
+    (λ c. fits (field (back c.before.before.before.before.before.before).v) tt)
+    (λ c κs. bound (wide (back c.before.before.before.before.before.before.before).v) tt)
+    (λ c. fits (field (back c.before.before.before.before.before.before.before.before.before.before).v) tt)
+    (λ c κs. bound (wide (back c.before.before.before.before.before.before.before.before.before.before.before).v) tt) returns)

@@ -30,4 +30,5 @@ returns c =
     let e = c.put_text-2.ensures in
     let r = c.args.rest.now in
     let n = length (before 10 r) in
-    rw (le-ltb 40 n (omega (arith, c.requires.0, c.if-n-gt-SHOWN.false)), le-ltb n (length r) (omega (arith, c.requires.0, c.if-n-rest.false))) (e.0, e.1, omega arith)
+    rw (le-ltb 40 n (omega (arith, c.requires.0, c.if-n-gt-SHOWN.false)), le-ltb n (length r) (omega (arith, c.requires.0, c.if-n-rest.false)))
+    (e.0, e.1, omega arith)

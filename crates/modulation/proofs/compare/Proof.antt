@@ -63,4 +63,5 @@ returns-3 c =
 pub compare_spec : {M : Type 1} → statement M
 compare_spec =
     tie.close
-    (tie.spec (λ c. fits (less_one c) tt) (λ c. fits (rest c) tt) (λ c. fits (stored w32 (rest c) tt) tt) (λ c κs. search rules) (λ c. fits (wide c) tt) (λ c. fits (second c.before.before) tt) (λ c. fits (second c.before.before) tt) (λ c. fits (third c.before.before) tt) returns returns-2 returns-3)
+    (tie.spec (λ c. fits (less_one c) tt) (λ c. fits (rest c) tt) (λ c. fits (stored w32 (rest c) tt) tt) (λ c κs. search rules) (λ c. fits (wide c) tt)
+    (λ c. fits (second c.before.before) tt) (λ c. fits (second c.before.before) tt) (λ c. fits (third c.before.before) tt) returns returns-2 returns-3)

@@ -28,4 +28,5 @@ returns c = simp ((stored w32 (times (lit (pos 2)) (b c)) tt).is, (stored w32 (p
 pub entries_of_spec : {M : Type 1} → statement M
 entries_of_spec =
     tie.close
-    (tie.spec (λ c. fits (product_a c) tt) (λ c. fits (product_b c) tt) (λ c. fits (times (lit (pos 2)) (b c)) tt) (λ c. fits (plus (a c) (b c)) tt) (λ c. fits (minus (b c) (a c)) tt) returns)
+    (tie.spec (λ c. fits (product_a c) tt) (λ c. fits (product_b c) tt) (λ c. fits (times (lit (pos 2)) (b c)) tt) (λ c. fits (plus (a c) (b c)) tt)
+    (λ c. fits (minus (b c) (a c)) tt) returns)

@@ -43,4 +43,5 @@ returns c =
 pub place_spec : {M : Type 1} → statement M
 place_spec =
     tie.close
-    (tie.spec (λ c κs. small c.before.before) (λ c κs. small c.before.before.before.before.before) (λ c κs. small c.before.before.before.before.before.before.before.before) returns)
+    (tie.spec (λ c κs. small c.before.before) (λ c κs. small c.before.before.before.before.before)
+    (λ c κs. small c.before.before.before.before.before.before.before.before) returns)

@@ -71,4 +71,7 @@ returns-7 c =
 pub sector_at_spec : {M : Type 1} → statement M
 sector_at_spec =
     tie.close
-    (tie.spec (λ c κs. tt) (λ c. fits (less (x c.before.before.before)) tt) (λ c κs. tt) (λ c. fits (less (z c.before.before.before)) tt) (λ c κs. tt) (λ c. fits (less (x c.before.before.before)) tt) (λ c κs. tt) (λ c. fits (less (y c.before.before.before)) tt) (λ c κs. tt) (λ c. fits (less (y c.before.before.before)) tt) (λ c. fits (less (z c.before.before.before.before.before)) tt) (λ c κs. tt) (λ c κs. tt) returns returns-2 returns-3 returns-4 returns-5 returns-6 returns-7)
+    (tie.spec (λ c κs. tt) (λ c. fits (less (x c.before.before.before)) tt) (λ c κs. tt) (λ c. fits (less (z c.before.before.before)) tt) (λ c κs. tt)
+    (λ c. fits (less (x c.before.before.before)) tt) (λ c κs. tt) (λ c. fits (less (y c.before.before.before)) tt) (λ c κs. tt)
+    (λ c. fits (less (y c.before.before.before)) tt) (λ c. fits (less (z c.before.before.before.before.before)) tt) (λ c κs. tt) (λ c κs. tt) returns
+    returns-2 returns-3 returns-4 returns-5 returns-6 returns-7)

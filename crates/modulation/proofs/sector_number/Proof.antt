@@ -38,4 +38,5 @@ add-result-2 c =
 pub sector_number_spec : {M : Type 1} → statement M
 sector_number_spec =
     tie.close
-    (tie.spec (λ c κs. search rules) (λ c. fits (less_z c.before.before.before.before) tt) (λ c κs. search rules) add-result (λ c. fits (less_y c.before.before.before.before.before.before.before) tt) (λ c κs. search rules) add-result-2 returns)
+    (tie.spec (λ c κs. search rules) (λ c. fits (less_z c.before.before.before.before) tt) (λ c κs. search rules) add-result
+    (λ c. fits (less_y c.before.before.before.before.before.before.before) tt) (λ c κs. search rules) add-result-2 returns)

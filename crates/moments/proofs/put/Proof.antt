@@ -33,4 +33,6 @@ returns c =
 pub put_spec : {M : Type 1} → statement M
 put_spec =
     tie.close
-    (tie.spec (λ c κs. tt) (λ c. record { fits = omega (arith, inside c) }) inside (λ c. record { fits = omega (arith, inside c) }) inside (λ c. record { fits = omega (arith, inside c) }) inside (λ c. record { fits = omega (arith, inside c) }) inside (λ c. record { fits = omega (arith, inside c) }) inside (λ c. record { fits = omega (arith, inside c) }) inside returns)
+    (tie.spec (λ c κs. tt) (λ c. record { fits = omega (arith, inside c) }) inside (λ c. record { fits = omega (arith, inside c) }) inside
+    (λ c. record { fits = omega (arith, inside c) }) inside (λ c. record { fits = omega (arith, inside c) }) inside
+    (λ c. record { fits = omega (arith, inside c) }) inside (λ c. record { fits = omega (arith, inside c) }) inside returns)

@@ -20,7 +20,8 @@ loop-g-preserved g c =
       room = omega arith;
       size = omega (arith, c.turn-g.ensures.0, c.receive-got.ensures.size.0, bytes, c.if-g-le-ENOUGH.true);
       gathered =
-          gathering_more _ c.loop-g.invariant.gathered (omega (arith, c.loop-g.invariant.room, c.requires.1)) c.receive-got.ensures.size.1 c.receive-got.ensures.read
+          gathering_more _ c.loop-g.invariant.gathered (omega
+          (arith, c.loop-g.invariant.room, c.requires.1)) c.receive-got.ensures.size.1 c.receive-got.ensures.read
           c.turn-g.ensures.0 c.turn-g.ensures.1 c.turn-g.ensures.3
           (λ u n. c.receive-got.ensures.end (sym c.turn-g.ensures.2 ∙ u) n (omega (arith, bytes)));
     }

@@ -90,4 +90,8 @@ hold-to-requires c κs = let s = c.before.before in rw (sized s.ranges.limit s.r
 pub regulate_spec : {M : Type 1} → statement M
 regulate_spec =
     tie.close
-    (tie.spec (λ c. fits (sized c.ranges.x c.requires.x_size) tt) (λ c κs. search rules) (λ c. fits (rise_reads c) tt) (λ c. fits (stored w32 (rise_reads c) tt) tt) (λ c. fits (u_reads c) tt) hold-to-requires (λ c. fits (stored w32 (out_reads c) tt) tt) (λ c. fits (over_reads c) tt) (λ c κs. search rules) (λ c. fits (local w32 {x = (start c).args.g.kcor} (start c).requires.kcor_size tt) tt) (λ c. fits (taken_reads c) tt) (λ c. fits (sum_reads c) tt) (λ c κs. search rules) (λ c. fits (next_reads c) tt) (λ c. fits (stored w64 (next_reads c) tt) tt) returns)
+    (tie.spec (λ c. fits (sized c.ranges.x c.requires.x_size) tt) (λ c κs. search rules) (λ c. fits (rise_reads c) tt)
+    (λ c. fits (stored w32 (rise_reads c) tt) tt) (λ c. fits (u_reads c) tt) hold-to-requires (λ c. fits (stored w32 (out_reads c) tt) tt)
+    (λ c. fits (over_reads c) tt) (λ c κs. search rules) (λ c. fits (local w32 {x = (start c).args.g.kcor} (start c).requires.kcor_size tt) tt)
+    (λ c. fits (taken_reads c) tt) (λ c. fits (sum_reads c) tt) (λ c κs. search rules) (λ c. fits (next_reads c) tt)
+    (λ c. fits (stored w64 (next_reads c) tt) tt) returns)

@@ -27,4 +27,5 @@ returns-2 c = simp (asked c.before ∙ c.if-in_range.false)
 pub counts_in_spec : {M : Type 1} → statement M
 counts_in_spec =
     tie.close
-    (tie.spec (λ c κs. tt) (λ c. unsigned (word c.before.before.ranges.next) (both c).next_up tt) (λ c. unsigned (word c.before.before.ranges.real) (both c).real_up tt) returns returns-2)
+    (tie.spec (λ c κs. tt) (λ c. unsigned (word c.before.before.ranges.next) (both c).next_up tt)
+    (λ c. unsigned (word c.before.before.ranges.real) (both c).real_up tt) returns returns-2)

@@ -37,4 +37,5 @@ returns c =
 pub spot_for_spec : {M : Type 1} → statement M
 spot_for_spec =
     tie.close
-    (tie.spec (λ c κs. tt) (λ c κs. tt) (λ c κs. tt) (λ c. search rules) (λ c. small 128 tt (after_low c.before)) (λ c. small 128 tt (more_low c.before)) returns)
+    (tie.spec (λ c κs. tt) (λ c κs. tt) (λ c κs. tt) (λ c. search rules) (λ c. small 128 tt (after_low c.before)) (λ c. small 128 tt (more_low c.before))
+    returns)

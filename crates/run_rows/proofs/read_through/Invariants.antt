@@ -12,5 +12,6 @@ invariant-loop-turns g l = record {
   room : length l.out ≡ length l.initial.out;
   is_sound : sound l.t.stream.tally.drive ≡ true;
   through : 0 < length l.initial.bytes → l.initial.t.going ≡ true
-      → Through (as_fed l.initial.t.stream) (g.R.Read.remaining l.initial.from) (g.R.Read.remaining l.from) (g.W.Write.contents l.initial.to) (g.W.Write.contents l.to) l.t l.turns;
+      → Through (as_fed l.initial.t.stream) (g.R.Read.remaining l.initial.from) (g.R.Read.remaining l.from) (g.W.Write.contents l.initial.to)
+      (g.W.Write.contents l.to) l.t l.turns;
 }

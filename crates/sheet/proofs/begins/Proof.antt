@@ -63,4 +63,5 @@ returns-3 c =
 pub begins_spec : {M : Type 1} → statement M
 begins_spec =
     tie.close
-    (tie.spec invariant-loop decreases-loop returns loop-holds shared-slice-read-if2 array-read-if2 returns-2 (λ c. omega arith) (λ c. omega arith) loop-again returns-3)
+    (tie.spec invariant-loop decreases-loop returns loop-holds shared-slice-read-if2 array-read-if2 returns-2 (λ c. omega arith) (λ c. omega arith) loop-again
+    returns-3)

@@ -46,4 +46,5 @@ overflow_add-at-in-loop-i c =
 pub loop-i-preserved : goal.loop-i-preserved
 loop-i-preserved c =
     rw ((answer w32 c.word.type_inv).is, c.word.ensures)
-    (walking_more c.loop-i.invariant c.loop-i-test.true (first c.args.text.now c.loop-i.at c.loop-i.i c.first-f.ensures c.in-Is.is) (place c.args.text.now c.loop-i.at c.find-n.ensures))
+    (walking_more c.loop-i.invariant c.loop-i-test.true (first c.args.text.now c.loop-i.at c.loop-i.i c.first-f.ensures c.in-Is.is)
+    (place c.args.text.now c.loop-i.at c.find-n.ensures))

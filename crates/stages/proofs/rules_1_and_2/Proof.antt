@@ -41,8 +41,11 @@ counted-requires c κs =
     (sized c.args.d.shaft (sound→ c.args.d c.requires.0).shaft, subst (λ (z : ℤ). Count z) (sym (word c.ranges.count).is) c.requires.1)
 
 commanded-requires : tie.Need-commanded-requires
-commanded-requires c κs =
-    (c.before.before.before.before.before.before.before.requires.0, subst (λ (s : Shaft). nat_abs s.speed ≤ fastest) (sym c.measured.ensures) (measured_size _ _))
+commanded-requires c κs = (
+  c.before.before.before.before.before.before.before.requires.0,
+  subst (λ (s : Shaft). nat_abs s.speed ≤ fastest) (sym c.measured.ensures)
+      (measured_size _ _),
+)
 
 pub rules_1_and_2_spec : {M : Type 1} → statement M
 rules_1_and_2_spec = tie.close (tie.spec counted-requires (λ c κs. tt) (λ c κs. tt) commanded-requires returns returns-2)

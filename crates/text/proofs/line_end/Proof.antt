@@ -34,4 +34,5 @@ returns-2 c =
 pub line_end_spec : {M : Type 1} → statement M
 line_end_spec =
     tie.close
-    (tie.spec (λ c κs. tt) (λ c κs. tt) (λ c. let h = room c.before.before in search rules) (λ c. room c.before.before) (λ c κs. tt) (λ c. let h = room c.before.before.before in search rules) (λ c. search rules) returns (λ c κs. tt) returns-2)
+    (tie.spec (λ c κs. tt) (λ c κs. tt) (λ c. let h = room c.before.before in search rules) (λ c. room c.before.before) (λ c κs. tt)
+    (λ c. let h = room c.before.before.before in search rules) (λ c. search rules) returns (λ c κs. tt) returns-2)

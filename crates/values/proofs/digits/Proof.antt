@@ -90,4 +90,5 @@ returns-4 c = reading_end c.before.loop-i.invariant c.loop-i-test.false
 pub digits_spec : {M : Type 1} → statement M
 digits_spec =
     tie.close
-    (tie.spec invariant-loop decreases-loop returns returns-2 loop-holds shared-slice-read-is-digit is-digit-requires returns-3 mul-value shared-slice-read-value sub-value cast-value add-value add-i loop-less loop-again returns-4)
+    (tie.spec invariant-loop decreases-loop returns returns-2 loop-holds shared-slice-read-is-digit is-digit-requires returns-3 mul-value
+    shared-slice-read-value sub-value cast-value add-value add-i loop-less loop-again returns-4)

@@ -62,4 +62,5 @@ returns c =
 pub put_line_spec : {M : Type 1} → statement M
 put_line_spec =
     tie.close
-    (tie.spec invariant-loop decreases-loop (λ c. omega arith) (λ c κs. omega arith) loop-holds (λ c κs. omega arith) (λ c. omega arith) (λ c. omega arith) (λ c κs. omega arith) (λ c. omega arith) (λ c. omega arith) loop-again (λ c κs. omega arith) (λ c. search rules) returns)
+    (tie.spec invariant-loop decreases-loop (λ c. omega arith) (λ c κs. omega arith) loop-holds (λ c κs. omega arith) (λ c. omega arith) (λ c. omega arith)
+    (λ c κs. omega arith) (λ c. omega arith) (λ c. omega arith) loop-again (λ c κs. omega arith) (λ c. search rules) returns)
