@@ -1,6 +1,6 @@
 -- The public calls, each an equation for every record and every number (docs/RULES.md, "Numbers handed back"). A call is its table, the rows in their
 -- order of precedence, each with test, number and effect; and what is answered where none applies, which has number 0. A new number is a new row.
-use Rattle.std.specs.Prelude.{true, false, List, [], ◌∷◌, ℤ, pos}
+use Rattle.std.specs.Prelude.{true, false, List, [], ◌∷◌, ℤ, pos, Result, Ok}
 use Rattle.shaft.specs.Shaft.{unmoved}
 use Rattle.field.specs.Field.{still}
 use Rattle.fixed.specs.Fixed.{inside}
@@ -8,8 +8,8 @@ use Rattle.fixed.specs.Ladder.{Rung, when, unless, answer_of, answered_by}
 use Rattle.settings.specs.declared.Settings.{Settings}
 use Rattle.drive_record.specs.declared.Command.{Command}
 use Rattle.drive_record.specs.declared.Drive.{Drive}
-use Rattle.drive.specs.declared.Made.{Made}
-use Rattle.drive.specs.declared.Made.TheVariants.{Ready, Refused}
+use Rattle.fixed.specs.declared.refusal.Refusal.{Refusal}
+use Rattle.fixed.specs.Refusal.{refuse, number_in}
 use Rattle.stages.specs.declared.Stepped.{Stepped}
 use Rattle.drive.specs.declared.Answered.{Answered}
 use Rattle.settings.specs.Settings.{refusals}
@@ -29,16 +29,15 @@ fresh s = record {
 }
 
 -- either a drive or a number, never both
-abbrev pub make_table : Settings → List (Rung Made)
-make_table s = answered_by Refused (refusals s)
+abbrev pub make_table : Settings → List (Rung (Result Drive Refusal))
+make_table s = answered_by refuse (refusals s)
 
-unfoldable pub made : Settings → Made
-made s = answer_of (make_table s) (Ready (fresh s))
+unfoldable pub made : Settings → Result Drive Refusal
+made s = answer_of (make_table s) (Ok (fresh s))
 
 -- the number of each case
-abbrev pub made_number : Made → ℤ
-made_number (Ready d) = pos 0
-made_number (Refused n) = n
+abbrev pub made_number : Result Drive Refusal → ℤ
+made_number r = number_in r
 
 -- ════ a step
 -- the record, tripped, and nothing else of it changed

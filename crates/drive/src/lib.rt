@@ -2,7 +2,8 @@
 // that nothing refuses goes through the stages. `step_sound` serves run and stream, which test the record once for many steps.
 #![tactic(auto)]
 
-ghost use Rattle.std.specs.Prelude.{◌≡◌, true};
+ghost use Rattle.std.specs.Prelude.{◌≡◌, true, pos};
+ghost use Rattle.fixed.specs.Refusal.{number_of};
 ghost use Rattle.drive_record.specs.Record.{sound as sound_of};
 ghost use Rattle.drive.specs.Calls.{
   fresh as fresh_of,
@@ -19,17 +20,11 @@ ghost use Rattle.drive.specs.Calls.{
 };
 
 use drive_record::{Command, Drive, Integrals, TARGET_BACK, TARGET_END};
+use fixed::refusal::Refusal;
 use frames::Stator;
 use modulation::Pulses;
-use settings::{Checked, Settings};
+use settings::Settings;
 use stages::Stepped;
-
-// What settings answer: a drive or a number.
-#[derive(Clone, Copy)]
-pub enum Made {
-    Ready(Drive),
-    Refused(i32),
-}
 
 // What a target and a clear answer.
 #[derive(Clone, Copy)]
@@ -61,23 +56,21 @@ pub fn fresh(s: Settings) -> Drive
     }
 }
 
-// A fresh drive with these settings, or the number that refuses them.
-pub fn make(s: Settings) -> Made
+// A fresh drive with these settings, or why they are refused.
+pub fn make(s: Settings) -> Result<Drive, Refusal>
     ensures { result ≡ made s }
 {
-    let c = settings::check(s);
-    match c {
-        Checked::Accepted(a) => Made::Ready(fresh(a)),
-        Checked::Refused(n) => Made::Refused(n),
-    }
+    let accepted = settings::check(s)?;
+    Ok(fresh(accepted))
 }
 
-pub fn number_of(m: Made) -> i32
+// The number of what `make` answered: 0 of a drive.
+pub fn number_of(m: Result<Drive, Refusal>) -> i32
     ensures { result ≡ made_number m }
 {
     match m {
-        Made::Ready(_) => 0,
-        Made::Refused(n) => n,
+        Ok(_) => 0,
+        Err(r) => r.number(),
     }
 }
 
@@ -89,12 +82,12 @@ fn with_trip(d: Drive) -> Drive
     n
 }
 
-fn refused(d: Drive, t: i32, number: i32) -> Stepped
-    ensures { result ≡ refused_of d t number }
+fn refused(d: Drive, t: i32, why: Refusal) -> Stepped
+    ensures { result ≡ refused_of d t (number_of why) }
 {
     Stepped {
         drive: d,
-        number: number,
+        number: why.number(),
         pulses: Pulses {
             a: t,
             b: t,
@@ -111,10 +104,10 @@ pub fn step_sound(d: Drive, ia: i32, ib: i32, count: i32) -> Stepped
     ensures { result ≡ stepped_sound d ia ib count }
 {
     if d.tripped {
-        return refused(d, d.settings.t, 7);
+        return refused(d, d.settings.t, Refusal::Tripped);
     }
     if !stages::sample_ok(ia, ib, count) {
-        return refused(with_trip(d), d.settings.t, 6);
+        return refused(with_trip(d), d.settings.t, Refusal::Sample);
     }
     stages::advance(d, ia, ib, count)
 }
@@ -124,7 +117,7 @@ pub fn step(d: Drive, ia: i32, ib: i32, count: i32) -> Stepped
     ensures { result ≡ stepped d ia ib count }
 {
     if !drive_record::sound(d) {
-        return refused(d, 0, 14);
+        return refused(d, 0, Refusal::Broken);
     }
     step_sound(d, ia, ib, count)
 }
@@ -139,12 +132,21 @@ fn with_target(d: Drive, wanted: i32) -> Drive
     n
 }
 
-fn answer(d: Drive, number: i32) -> Answered
-    ensures { result ≡ answered d number }
+fn accepted(d: Drive) -> Answered
+    ensures { result ≡ answered d (pos 0) }
 {
     Answered {
         drive: d,
-        number: number,
+        number: 0,
+    }
+}
+
+fn not_accepted(d: Drive, why: Refusal) -> Answered
+    ensures { result ≡ answered d (number_of why) }
+{
+    Answered {
+        drive: d,
+        number: why.number(),
     }
 }
 
@@ -153,15 +155,15 @@ pub fn target(d: Drive, wanted: i32) -> Answered
     ensures { result ≡ targeted d wanted }
 {
     if !drive_record::sound(d) {
-        return answer(d, 14);
+        return not_accepted(d, Refusal::Broken);
     }
     if d.tripped {
-        return answer(d, 7);
+        return not_accepted(d, Refusal::Tripped);
     }
     if !fixed::within(TARGET_BACK, TARGET_END, wanted) {
-        return answer(d, 8);
+        return not_accepted(d, Refusal::Target);
     }
-    answer(with_target(d, wanted), 0)
+    accepted(with_target(d, wanted))
 }
 
 // After a trip: a fresh drive of the same settings.
@@ -169,10 +171,10 @@ pub fn clear(d: Drive) -> Answered
     ensures { result ≡ cleared d }
 {
     if !drive_record::sound(d) {
-        return answer(d, 14);
+        return not_accepted(d, Refusal::Broken);
     }
     if !d.tripped {
-        return answer(d, 10);
+        return not_accepted(d, Refusal::NotTripped);
     }
-    answer(fresh(d.settings), 0)
+    accepted(fresh(d.settings))
 }

@@ -3,6 +3,7 @@
 
 ghost use Rattle.std.specs.Prelude.{◌≡◌, true, ◌++◌, ◌+◌, ◌*◌, ◌≤◌, length, take as take_of, drop};
 ghost use Rattle.drive_record.specs.Record.{sound as sound_of};
+ghost use Rattle.fixed.specs.Refusal.{number_of};
 ghost use Rattle.rows.specs.Rows.{
   one,
   is_accepted,
@@ -18,7 +19,7 @@ ghost use Rattle.rows.specs.Rows.{
 };
 
 use drive_record::Drive;
-use settings::Checked;
+use fixed::refusal::Refusal;
 use stages::Stepped;
 
 // What a run answers: the drive after it, its own number, how many steps were accepted and how many of those were clipped.
@@ -59,13 +60,13 @@ fn put_row(out: &mut [i32], at: usize, s: Stepped)
 fn accepted_in(s: Stepped) -> usize
     ensures { result ≡ one (is_accepted s) }
 {
-    if fixed::within(0, 0, s.number) { 1 } else { 0 }
+    if s.number == 0 { 1 } else { 0 }
 }
 
 fn clipped_in(s: Stepped) -> usize
     ensures { result ≡ one (is_clipped s) }
 {
-    if fixed::within(0, 0, s.number) & s.pulses.clipped {
+    if s.number == 0 & s.pulses.clipped {
         1
     } else {
         0
@@ -98,12 +99,12 @@ fn rows_run(d: Drive, samples: &[i32], out: &mut [i32], n: usize) -> Ran
 }
 
 // No row taken.
-fn no_rows(d: Drive, number: i32) -> Ran
-    ensures { result ≡ no_rows d number }
+fn no_rows(d: Drive, why: Refusal) -> Ran
+    ensures { result ≡ no_rows d (number_of why) }
 {
     Ran {
         drive: d,
-        number: number,
+        number: why.number(),
         accepted: 0,
         clipped: 0,
     }
@@ -121,16 +122,16 @@ fn rows_fit(samples: usize, out: usize) -> bool
 pub fn run(d: Drive, samples: &[i32], out: &mut [i32]) -> Ran
     ensures { (result ≡ run_of d samples.now out.old) × (out.new ≡ output_after d samples.now out.old) }
 {
-    let Checked::Accepted(_) = settings::check(d.settings) else {
-        return no_rows(d, 14);
+    let Ok(_) = settings::check(d.settings) else {
+        return no_rows(d, Refusal::Broken);
     };
     let words_stand = drive_record::words_ok(d);
     let broken = !words_stand;
     if broken {
-        return no_rows(d, 14);
+        return no_rows(d, Refusal::Broken);
     }
     if !rows_fit(samples.len(), out.len()) {
-        return no_rows(d, 9);
+        return no_rows(d, Refusal::Rows);
     }
     let n = samples.len() / 3;
     rows_run(d, samples, out, n)

@@ -3,7 +3,8 @@
 use mathlib.Core.Path.{◌≡◌, refl}
 use mathlib.Core.Bool.{true}
 use lib.IntN.{pos}
-use Rattle.settings.specs.declared.Checked.TheVariants.{Refused}
+use Rattle.std.specs.Prelude.{Err}
+use Rattle.fixed.specs.declared.refusal.Refusal.TheVariants.{Untied}
 use Rattle.settings.specs.Settings.{period_ok, gain_ok, gains_ok, tied, gains_tied, limits_ok, rest_ok, accepted, checked}
 use Rattle.settings.specs.BenchSettings.{bench_with, bench_settings}
 
@@ -15,6 +16,6 @@ pub bench_accepted : accepted bench_settings ≡ true
 unfolding bench_settings accepted period_ok gains_ok gain_ok gains_tied tied limits_ok rest_ok
 bench_accepted = refl
 
-pub untied_refused : checked (bench_with (pos 16384) (pos 512) (pos 512)) ≡ Refused (pos 3)
+pub untied_refused : checked (bench_with (pos 16384) (pos 512) (pos 512)) ≡ Err Untied
 unfolding checked period_ok gains_ok gain_ok gains_tied tied
 untied_refused = refl

@@ -1,16 +1,17 @@
 -- Accepted settings as named ranges: `accepted s ≡ true` exactly when `SettingsIn s`; and what the check's two answers say.
 -- Assumes nothing.
-use mathlib.Core.Path.{◌≡◌, refl, sym, ◌∙◌}
+use mathlib.Core.Path.{◌≡◌, refl, sym, ap, ◌∙◌}
 use mathlib.Core.Logic.{◌↔◌}
 use mathlib.Core.Bool.{Bool, true, false, cond, ◌&&◌, true≢false}
 use lib.IntN.{ℤ, pos, ◌*ℤ◌}
-use lib.Signed.{le_z}
 use Rattle.fixed.specs.Fixed.{is_in}
 use Rattle.fixed.proofs.HeldLaws.{and_both, equal_is}
-use Rattle.fixed.proofs.LadderLaws.{all_pass_lem, none_given, answered_by_lem}
+use Rattle.fixed.proofs.LadderLaws.{all_pass_lem, answered_by_lem}
 use Rattle.fixed.proofs.Ranges.{In, two, three, four}
 use Rattle.settings.specs.declared.Settings.{Settings}
-use Rattle.settings.specs.declared.Checked.TheVariants.{Accepted, Refused}
+use Rattle.std.specs.Prelude.{Ok, Err, is_ok}
+use Rattle.fixed.specs.declared.refusal.Refusal.{Refusal}
+use Rattle.fixed.specs.Refusal.{reason, refuse}
 use Rattle.settings.specs.Ranges as range
 use Rattle.settings.specs.Settings.{period_ok, gain_ok, gains_ok, tied, gains_tied, limits_ok, rest_ok, refusals, refusal, accepted, checked}
 
@@ -82,25 +83,27 @@ accepted← s i =
     (all_pass_lem (refusals s)).1 (i.t, (gains, (ties, (and_both i.v i.q, (rest, tt)))))
 
 -- ════ the check
-pub checked_is : (s : Settings) → checked s ≡ cond (accepted s) (Accepted s) (Refused (refusal s))
+pub checked_is : (s : Settings) → checked s ≡ cond (accepted s) (Ok s) (refuse (refusal s))
 unfolding checked accepted refusal
-checked_is s = answered_by_lem Refused (refusals s) (Accepted s)
+checked_is s = answered_by_lem refuse (refusals s) (Ok s)
 
--- accepted exactly where the number is at most 0
-pub accepted_is : (s : Settings) → le_z (refusal s) (pos 0) ≡ accepted s
-unfolding accepted refusal
-accepted_is s = none_given (refusals s) refl
+pub checked_ok : (s : Settings) → is_ok (checked s) ≡ accepted s
+checked_ok s = ap is_ok (checked_is s) ∙ by (accepted s)
+  where
+    by : (b : Bool) → is_ok (cond b (Ok s) (refuse (refusal s))) ≡ b
+    by true = refl
+    by false = refl
 
-pub checked_accepted : (s r : Settings) → checked s ≡ Accepted r → (accepted s ≡ true) × (s ≡ r)
+pub checked_accepted : (s r : Settings) → checked s ≡ Ok r → (accepted s ≡ true) × (s ≡ r)
 checked_accepted s r h = by (accepted s) refl (sym (checked_is s) ∙ h)
   where
-    by : (b : Bool) → accepted s ≡ b → cond b (Accepted s) (Refused (refusal s)) ≡ Accepted r → (accepted s ≡ true) × (s ≡ r)
+    by : (b : Bool) → accepted s ≡ b → cond b (Ok s) (refuse (refusal s)) ≡ Ok r → (accepted s ≡ true) × (s ≡ r)
     by true e h = (e, cc)
     by false e h = absurd (let z : ◌≡◌ {A = Bool} true false = cc in true≢false z)
 
-pub checked_refused : (s : Settings) (n : ℤ) → checked s ≡ Refused n → (accepted s ≡ false) × (n ≡ refusal s)
-checked_refused s n h = by (accepted s) refl (sym (checked_is s) ∙ h)
+pub checked_refused : (s : Settings) (r : Refusal) → checked s ≡ Err r → (accepted s ≡ false) × (r ≡ reason (refusal s))
+checked_refused s r h = by (accepted s) refl (sym (checked_is s) ∙ h)
   where
-    by : (b : Bool) → accepted s ≡ b → cond b (Accepted s) (Refused (refusal s)) ≡ Refused n → (accepted s ≡ false) × (n ≡ refusal s)
+    by : (b : Bool) → accepted s ≡ b → cond b (Ok s) (refuse (refusal s)) ≡ Err r → (accepted s ≡ false) × (r ≡ reason (refusal s))
     by true e h = absurd (let z : ◌≡◌ {A = Bool} true false = cc in true≢false z)
     by false e h = (e, cc)

@@ -1,10 +1,10 @@
 -- The settings, and when they are refused (docs/RULES.md, "Settings", and numbers 1 to 5 of "Numbers handed back").
-use Rattle.std.specs.Prelude.{Bool, ◌&&◌, List, [], ◌∷◌, ℤ, pos, ◌*ℤ◌}
+use Rattle.std.specs.Prelude.{Bool, ◌&&◌, List, [], ◌∷◌, ℤ, pos, ◌*ℤ◌, Result, Ok}
 use Rattle.fixed.specs.Fixed.{equal, is_in}
 use Rattle.fixed.specs.Ladder.{Rung, unless, answer_of, first_of, all_pass}
+use Rattle.fixed.specs.declared.refusal.Refusal.{Refusal}
+use Rattle.fixed.specs.Refusal.{refuse, number_in}
 use Rattle.settings.specs.declared.Settings.{Settings}
-use Rattle.settings.specs.declared.Checked.{Checked}
-use Rattle.settings.specs.declared.Checked.TheVariants.{Accepted, Refused}
 use Rattle.settings.specs.Ranges as range
 
 unfoldable pub period_ok : Settings → Bool
@@ -37,18 +37,18 @@ rest_ok s =
     && is_in range.r s.r
 
 -- ════ the table: T; a Kp, Kcor or Ki; a gain set that breaks 4096·Ki = Kp-as-Kcor; V or Q; Kr, Kt, Kth, Kn, F or R. The lowest number decides
-abbrev pub refusals : Settings → List (Rung Checked)
+abbrev pub refusals : Settings → List (Rung (Result Settings Refusal))
 refusals s =
-    unless (period_ok s) 1 Refused
-    ∷ unless (gains_ok s) 2 Refused
-    ∷ unless (gains_tied s) 3 Refused
-    ∷ unless (limits_ok s) 4 Refused
-    ∷ unless (rest_ok s) 5 Refused
+    unless (period_ok s) 1 refuse
+    ∷ unless (gains_ok s) 2 refuse
+    ∷ unless (gains_tied s) 3 refuse
+    ∷ unless (limits_ok s) 4 refuse
+    ∷ unless (rest_ok s) 5 refuse
     ∷ []
 
--- what settings answer: themselves, or the number that refuses them
-unfoldable pub checked : Settings → Checked
-checked s = answer_of (refusals s) (Accepted s)
+-- what settings answer: themselves, or why they are refused, with the number of the first rung that does
+unfoldable pub checked : Settings → Result Settings Refusal
+checked s = answer_of (refusals s) (Ok s)
 
 -- that number, 0 where none does, and whether none does
 unfoldable pub refusal : Settings → ℤ
@@ -58,6 +58,5 @@ unfoldable pub accepted : Settings → Bool
 accepted s = all_pass (refusals s)
 
 -- the number of each case
-abbrev pub checked_number : Checked → ℤ
-checked_number (Accepted s) = pos 0
-checked_number (Refused n) = n
+abbrev pub checked_number : Result Settings Refusal → ℤ
+checked_number r = number_in r

@@ -1,10 +1,9 @@
 -- The settings as words, in the order of the sheet, and back; and each word's name, kind and range.
-use Rattle.std.specs.Prelude.{ℕ, Bool, true, false, ◌&&◌, List, [], ◌∷◌, ◌++◌, ℤ, pos, get_or}
+use Rattle.std.specs.Prelude.{ℕ, Bool, true, false, ◌&&◌, List, [], ◌∷◌, ◌++◌, ℤ, pos, get_or, Result, Ok, Err}
 use Rattle.fixed.specs.Fixed.{Range, is_in}
 use Rattle.settings.specs.Ranges as range
 use Rattle.settings.specs.declared.Settings.{Settings}
-use Rattle.settings.specs.declared.Checked.{Checked}
-use Rattle.settings.specs.declared.Checked.TheVariants.{Accepted, Refused}
+use Rattle.fixed.specs.declared.refusal.Refusal.{Refusal}
 
 -- how many words settings are
 abbrev pub size : ℕ
@@ -51,9 +50,9 @@ settings_of l = record {
 }
 
 -- the values of each case: the words of accepted settings, and none where they are refused
-abbrev pub values_of : Checked → List ℤ
-values_of (Accepted s) = words_of s
-values_of (Refused n) = []
+abbrev pub values_of : Result Settings Refusal → List ℤ
+values_of (Ok s) = words_of s
+values_of (Err r) = []
 
 -- ════ the names
 -- a word's name, in bytes; whether it is a gain, of which 4096 are 1; its range

@@ -10,12 +10,13 @@ ghost use Rattle.settings.specs.Settings.{
   gains_tied,
   limits_ok,
   rest_ok,
-  refusal as refusal_of,
   accepted,
   checked,
 };
 ghost use Rattle.settings.specs.Words.{words_of, settings_of, size};
 ghost use Rattle.settings.specs.BenchSettings.{bench_settings};
+
+use fixed::refusal::Refusal;
 
 // The ends of the period.
 pub const SHORTEST: i32 = 100;
@@ -119,52 +120,34 @@ fn rest_ok(s: Settings) -> bool
         & fixed::within(1, 8191, s.r)
 }
 
-// The lowest number that applies to settings, or 0.
-fn refusal(s: Settings) -> i32
-    ensures { result ≡ refusal_of s }
+// What settings answer: themselves, once all are in range, or why they are refused. The lowest number that applies decides.
+#[tactic(auto, unfolding(crate::specs::Settings::checked))]
+pub fn check(s: Settings) -> Result<Settings, Refusal>
+    ensures { result ≡ checked s }
 {
     if !period_ok(s) {
-        return 1;
+        return Err(Refusal::Period);
     }
     if !gains_ok(s) {
-        return 2;
+        return Err(Refusal::Gains);
     }
     if !gains_tied(s) {
-        return 3;
+        return Err(Refusal::Untied);
     }
     if !limits_ok(s) {
-        return 4;
+        return Err(Refusal::Limits);
     }
     if !rest_ok(s) {
-        return 5;
+        return Err(Refusal::Rest);
     }
-    0
+    Ok(s)
 }
 
 // Whether settings are accepted.
 pub fn is_accepted(s: Settings) -> bool
     ensures { result ≡ accepted s }
 {
-    refusal(s) <= 0
-}
-
-// What settings answer: themselves, once all are in range, or the number that refuses them.
-#[derive(Clone, Copy)]
-pub enum Checked {
-    Accepted(Settings),
-    Refused(i32),
-}
-
-#[tactic(auto, using(crate::proofs::Ranges::checked_is, crate::proofs::Ranges::accepted_is))]
-pub fn check(s: Settings) -> Checked
-    ensures { result ≡ checked s }
-{
-    let number = refusal(s);
-    if number <= 0 {
-        Checked::Accepted(s)
-    } else {
-        Checked::Refused(number)
-    }
+    check(s).is_ok()
 }
 
 // The words, in the order of the sheet.
