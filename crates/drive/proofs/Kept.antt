@@ -11,7 +11,7 @@ use Rattle.fixed.proofs.Ranges.{Inside, in-lo, in-up, zero_inside}
 use Rattle.shaft.proofs.ShaftRanges.{unmoved_in}
 use Rattle.field.proofs.FieldRanges.{still_in}
 use Rattle.settings.specs.declared.Settings.{Settings}
-use Rattle.settings.specs.declared.Checked.TheVariants.{Accepted}
+use Rattle.std.specs.Prelude.{Ok}
 use Rattle.settings.specs.Settings.{accepted, checked}
 use Rattle.settings.specs.Ranges as range
 use Rattle.settings.proofs.Ranges.{accepted→, accepted←}
@@ -47,7 +47,7 @@ fresh_sound s e =
     }
 
 -- so is that of any settings which the check hands back
-pub checked_sound : (s a : Settings) → checked s ≡ Accepted a → sound (fresh a) ≡ true
+pub checked_sound : (s a : Settings) → checked s ≡ Ok a → sound (fresh a) ≡ true
 checked_sound s a e = sound← (fresh a) (fresh_sound a (ready_accepted s a e))
 
 -- ════ a trip and a target

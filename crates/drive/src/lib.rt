@@ -34,6 +34,7 @@ pub struct Answered {
 }
 
 // The fresh drive of settings that have been checked; of others it is a broken record, which every call refuses.
+#[tactic(auto, unfolding(crate::specs::Calls::fresh))]
 pub fn fresh(s: Settings) -> Drive
     ensures { result ≡ fresh_of s }
 {
@@ -57,6 +58,7 @@ pub fn fresh(s: Settings) -> Drive
 }
 
 // A fresh drive with these settings, or why they are refused.
+#[tactic(auto, using(crate::proofs::CallLaws::made_ready, crate::proofs::CallLaws::made_refused))]
 pub fn make(s: Settings) -> Result<Drive, Refusal>
     ensures { result ≡ made s }
 {
@@ -74,6 +76,7 @@ pub fn number_of(m: Result<Drive, Refusal>) -> i32
     }
 }
 
+#[tactic(auto, unfolding(crate::specs::Calls::with_trip))]
 fn with_trip(d: Drive) -> Drive
     ensures { result ≡ with_trip d }
 {
@@ -82,6 +85,7 @@ fn with_trip(d: Drive) -> Drive
     n
 }
 
+#[tactic(auto, unfolding(crate::specs::Calls::refused))]
 fn refused(d: Drive, t: i32, why: Refusal) -> Stepped
     ensures { result ≡ refused_of d t (number_of why) }
 {
@@ -99,6 +103,7 @@ fn refused(d: Drive, t: i32, why: Refusal) -> Stepped
 }
 
 // A step on a record that has been tested: what a run does for each row.
+#[tactic(auto, unfolding(crate::specs::Calls::stepped_sound))]
 pub fn step_sound(d: Drive, ia: i32, ib: i32, count: i32) -> Stepped
     requires { sound_of d ≡ true }
     ensures { result ≡ stepped_sound d ia ib count }
@@ -113,6 +118,7 @@ pub fn step_sound(d: Drive, ia: i32, ib: i32, count: i32) -> Stepped
 }
 
 // One step from any record and any sample.
+#[tactic(auto, unfolding(crate::specs::Calls::stepped, crate::specs::Calls::stepped_sound, drive_record::specs::Record::broken))]
 pub fn step(d: Drive, ia: i32, ib: i32, count: i32) -> Stepped
     ensures { result ≡ stepped d ia ib count }
 {
@@ -122,6 +128,7 @@ pub fn step(d: Drive, ia: i32, ib: i32, count: i32) -> Stepped
     step_sound(d, ia, ib, count)
 }
 
+#[tactic(auto, unfolding(crate::specs::Calls::with_target, crate::specs::Calls::retargeted))]
 fn with_target(d: Drive, wanted: i32) -> Drive
     ensures { result ≡ with_target d wanted }
 {
@@ -151,6 +158,7 @@ fn not_accepted(d: Drive, why: Refusal) -> Answered
 }
 
 // A new target for the speed reference.
+#[tactic(auto, unfolding(crate::specs::Calls::targeted, drive_record::specs::Record::broken, fixed::specs::Fixed::inside))]
 pub fn target(d: Drive, wanted: i32) -> Answered
     ensures { result ≡ targeted d wanted }
 {
@@ -167,6 +175,7 @@ pub fn target(d: Drive, wanted: i32) -> Answered
 }
 
 // After a trip: a fresh drive of the same settings.
+#[tactic(auto, unfolding(crate::specs::Calls::cleared, drive_record::specs::Record::broken))]
 pub fn clear(d: Drive) -> Answered
     ensures { result ≡ cleared d }
 {

@@ -4,3 +4,4 @@ pub mod TextLaws
 pub mod LineLaws
 pub mod RoundTrip
 pub mod Cases
+pub mod PageLaws

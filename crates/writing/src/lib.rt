@@ -2,6 +2,7 @@
 #![tactic(auto)]
 
 ghost use Rattle.std.specs.Prelude.{◌≡◌, ◌+◌, ◌*◌, ◌≤◌, ◌∷◌, [], nat_abs, length, take};
+ghost use Rattle.writing.specs.Page.{Put, Room};
 ghost use Rattle.writing.specs.Decimal.{last_digits, count_text, text_of, line_text, bad_text, written};
 
 // How many digits n has.
@@ -116,4 +117,72 @@ pub fn put_bad(number: u64, out: &mut [u8], at: usize) -> usize
     let a = put_text(b"bad ", out, at);
     let b = put_count(number, out, a);
     put_byte(b'\n', out, b)
+}
+
+// A place in lent bytes: what is put on it is written there, and the place moves behind it.
+#[derive(Drop)]
+pub struct Page<'a> {
+    out: &'a mut [u8],
+    at: usize,
+}
+
+impl<'a> Page<'a> {
+    pub fn new(out: &'a mut [u8], at: usize) -> Page<'a>
+        ensures same { result.out.ghost_name ≡ out.entry.ghost_name }
+        ensures bytes { result.out.now ≡ out.old }
+        ensures place { result.at ≡ at }
+    {
+        Page { out, at }
+    }
+
+    // The place behind what was put.
+    pub fn place(&self) -> usize
+        ensures { result ≡ self.now.at }
+    {
+        self.at
+    }
+
+    pub fn put_byte(&mut self, b: u8)
+        requires { Room self.old 1 }
+        ensures { Put self.old self.new (b ∷ []) }
+    {
+        self.out[self.at] = b;
+        self.at += 1;
+    }
+
+    pub fn put_text(&mut self, bytes: &[u8])
+        requires { Room self.old (length bytes.now) }
+        ensures { Put self.old self.new bytes.now }
+    {
+        let end = self.at + bytes.len();
+        self.out[self.at..end].copy_from_slice(bytes);
+        self.at = end;
+    }
+
+    pub fn put_count(&mut self, count: u64)
+        requires { Room self.old 20 }
+        ensures put { Put self.old self.new (count_text count) }
+        ensures bound { self.new.at ≤ self.old.at + 20 }
+    {
+        self.at = put_count(count, self.out, self.at);
+    }
+
+    // Numbers as a line. Twelve places for each are room whatever they are.
+    pub fn put_line(&mut self, numbers: &[i32])
+        requires { (1 ≤ length numbers.now) × Room self.old (12 * length numbers.now) }
+        ensures put { Put self.old self.new (line_text numbers.now) }
+        ensures bound { self.new.at ≤ self.old.at + 12 * length numbers.now }
+    {
+        self.at = put_line(numbers, numbers.len(), self.out, self.at);
+    }
+
+    pub fn put_bad(&mut self, number: u64)
+        requires { Room self.old 25 }
+        ensures put { Put self.old self.new (bad_text number) }
+        ensures bound { self.new.at ≤ self.old.at + 25 }
+    {
+        self.put_text(b"bad ");
+        self.put_count(number);
+        self.put_byte(b'\n');
+    }
 }

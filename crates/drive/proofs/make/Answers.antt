@@ -1,15 +1,8 @@
--- `drive::make` meets its contract.
--- Assumes nothing.
-use Rattle.std.proofs.Common.{rules, ◌≡◌, sym, ◌∙◌, ap, to_z, of_z, w32}
-use Rattle.drive.specs.declared.Made.TheVariants.{Ready, Refused}
+use Rattle.std.proofs.Common.{rules, ◌≡◌, ◌∙◌, sym, true, false, pos, cond, ℤ}
 use Rattle.drive.proofs.CallLaws.{made_ready, made_refused}
 use Rattle.drive.proofs.make.Goals as goal
 
-pub returns-in-Accepted : goal.returns-in-Accepted
-returns-in-Accepted c = ap Ready c.fresh.ensures ∙ sym (made_ready _ _ (sym c.in-Accepted.ensures))
-
-pub returns-in-Refused : goal.returns-in-Refused
-returns-in-Refused c =
-    let n = c.in-Refused.n in
-    let e : to_z w32 (of_z w32 n) ≡ n = search rules in
-    ap Refused e ∙ sym (made_refused _ _ (sym c.in-Refused.ensures))
+pub returns-in_err-accepted : goal.returns-in_err-accepted
+returns-in_err-accepted c =
+    let made : Rattle.drive.specs.Calls.made c.args.s ≡ Rattle.std.proofs.Common.Err c.in_err-accepted.field-0.0 = made_refused _ _ (sym c.check.ensures ∙ c.in_err-accepted.was) in
+    let e = c.from_residual.ensures.1 in ?

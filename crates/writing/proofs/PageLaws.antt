@@ -1,0 +1,49 @@
+-- Laws of `Put`.
+-- Assumes nothing.
+use mathlib.Core.Path.{◌≡◌, refl, ◌∙◌}
+use mathlib.Core.List.{List, [], ◌∷◌, ◌++◌}
+use Prim.Native.Nat.{ℕ, ◌+◌, ◌-◌, ◌≤◌, ◌<◌}
+use native.Mathlib.Omega.{arith}
+use native.Mathlib.Numerals.{add-one}
+use lib.ListN.{length, get_or, take, length-append}
+use lib.Seq.{take-suc, drop-drop}
+use borrow.Rule.Slice.PartMut.{put_mid}
+use Rattle.writing.specs.declared.Page.{Page}
+use Rattle.writing.specs.Page.{Put, Room}
+use Rattle.writing.specs.Decimal.{written}
+use Rattle.writing.proofs.Written.{written_none, written_length, written_then}
+
+-- what is shown of the bytes and the place is all there is to show where there is room
+pub puts : {p q : Page} {bs : List ℕ} → Room p (length bs)
+    → q.out.ghost_name ≡ p.out.ghost_name → q.at ≡ p.at + length bs → q.out.now ≡ written p.out.now p.at bs → Put p q bs
+puts {p} {q} {bs} h s a b =
+    let l : length q.out.now ≡ length p.out.now = rw b (written_length p.out.now bs p.at h) in
+    record { same = s; place = a; long = l; within = omega (arith, l, a, h); bytes = b }
+
+pub none : (p : Page) → Room p 0 → Put p p []
+none p h = puts h refl (omega arith) (written_none _ _)
+
+-- one text, and the next behind it
+pub then : {p q r : Page} {xs ys : List ℕ} → Put p q xs → Put q r ys → Put p r (xs ++ ys)
+then {p} {q} {r} {xs} {ys} a b =
+    let l : p.at + length xs + length ys ≤ length p.out.now = omega (arith, a.place, a.long, b.place, b.long, b.within) in
+    record {
+      same = b.same ∙ a.same;
+      place = simp length-append (omega (arith, a.place, b.place));
+      long = b.long ∙ a.long;
+      within = b.within;
+      bytes = b.bytes ∙ rw (a.bytes, a.place) (written_then p.out.now xs ys p.at l);
+    }
+
+-- the first bytes of a list, and the next one
+pub then_next : {p q r : Page} (bs : List ℕ) (i : ℕ) → i < length bs → Put p q (take i bs) → Put q r (get_or bs i 0 ∷ []) → Put p r (take (i + 1) bs)
+then_next bs i h a b = rw (add-one, take-suc bs i 0) (then a b)
+
+-- what copy_from_slice leaves, where it copies into as many places as there are bytes
+pub copied : (o : List ℕ) (at : ℕ) {bs now : List ℕ} → now ≡ bs → put_mid at (at + length bs - at) o now ≡ written o at bs
+unfolding written
+copied o at {bs} e = let k : at + length bs - at ≡ length bs = omega arith in rw (e, k, drop-drop) refl
+
+-- the same, of a text that is the two together
+pub then_is : {p q r : Page} {xs ys zs : List ℕ} → Put p q xs → Put q r ys → zs ≡ xs ++ ys → Put p r zs
+then_is a b e = rw e (then a b)
