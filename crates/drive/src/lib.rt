@@ -2,8 +2,8 @@
 // that nothing refuses goes through the stages. `step_sound` serves run and stream, which test the record once for many steps.
 #![tactic(auto)]
 
-ghost use Rattle.std.specs.Prelude.{◌≡◌, true, pos};
-ghost use Rattle.fixed.specs.Refusal.{number_of};
+ghost use Rattle.std.specs.Prelude.{◌≡◌, true};
+ghost use Rattle.fixed.specs.Refusal.{number_of, code_of};
 ghost use Rattle.drive_record.specs.Record.{sound as sound_of};
 ghost use Rattle.drive.specs.Calls.{
   fresh as fresh_of,
@@ -80,9 +80,7 @@ pub fn number_of(m: Result<Drive, Refusal>) -> i32
 fn with_trip(d: Drive) -> Drive
     ensures { result ≡ with_trip d }
 {
-    let mut n = d;
-    n.tripped = true;
-    n
+    Drive { tripped: true, ..d }
 }
 
 #[tactic(auto, unfolding(crate::specs::Calls::refused))]
@@ -132,29 +130,24 @@ pub fn step(d: Drive, ia: i32, ib: i32, count: i32) -> Stepped
 fn with_target(d: Drive, wanted: i32) -> Drive
     ensures { result ≡ with_target d wanted }
 {
-    let mut command = d.command;
-    command.target = wanted;
-    let mut n = d;
-    n.command = command;
-    n
-}
-
-fn accepted(d: Drive) -> Answered
-    ensures { result ≡ answered d (pos 0) }
-{
-    Answered {
-        drive: d,
-        number: 0,
+    Drive {
+        command: Command {
+            target: wanted,
+            ..d.command
+        },
+        ..d
     }
 }
 
-fn not_accepted(d: Drive, why: Refusal) -> Answered
-    ensures { result ≡ answered d (number_of why) }
+// A drive, and why what was asked of it is refused, if it is.
+fn answer(d: Drive, why: Option<Refusal>) -> Answered
+    ensures { result ≡ answered d (code_of why) }
 {
-    Answered {
-        drive: d,
-        number: why.number(),
-    }
+    let number = match why {
+        None => 0,
+        Some(r) => r.number(),
+    };
+    Answered { drive: d, number }
 }
 
 // A new target for the speed reference.
@@ -163,15 +156,15 @@ pub fn target(d: Drive, wanted: i32) -> Answered
     ensures { result ≡ targeted d wanted }
 {
     if !drive_record::sound(d) {
-        return not_accepted(d, Refusal::Broken);
+        return answer(d, Some(Refusal::Broken));
     }
     if d.tripped {
-        return not_accepted(d, Refusal::Tripped);
+        return answer(d, Some(Refusal::Tripped));
     }
     if !fixed::within(TARGET_BACK, TARGET_END, wanted) {
-        return not_accepted(d, Refusal::Target);
+        return answer(d, Some(Refusal::Target));
     }
-    accepted(with_target(d, wanted))
+    answer(with_target(d, wanted), None)
 }
 
 // After a trip: a fresh drive of the same settings.
@@ -180,10 +173,10 @@ pub fn clear(d: Drive) -> Answered
     ensures { result ≡ cleared d }
 {
     if !drive_record::sound(d) {
-        return not_accepted(d, Refusal::Broken);
+        return answer(d, Some(Refusal::Broken));
     }
     if !d.tripped {
-        return not_accepted(d, Refusal::NotTripped);
+        return answer(d, Some(Refusal::NotTripped));
     }
-    accepted(fresh(d.settings))
+    answer(fresh(d.settings), None)
 }

@@ -1,5 +1,5 @@
 -- The numbers handed back (docs/RULES.md, "Numbers handed back"): each reason to refuse has one, and accepted is 0.
-use Rattle.std.specs.Prelude.{ℕ, cond, eqb, ℤ, pos, negsuc, Result, Ok, Err}
+use Rattle.std.specs.Prelude.{ℕ, cond, eqb, ℤ, pos, negsuc, Option, None, Some, Result, Ok, Err}
 use Rattle.fixed.specs.declared.refusal.Refusal.{Refusal}
 use Rattle.fixed.specs.declared.refusal.Refusal.TheVariants.{
   Period, Gains, Untied, Limits, Rest, Sample, Tripped, Target, Rows, NotTripped, Broken, NoSheet, NoRoom, NoRow
@@ -20,6 +20,11 @@ number_of Broken = pos 14
 number_of NoSheet = pos 17
 number_of NoRoom = pos 18
 number_of NoRow = pos 19
+
+-- of an answer that may refuse: 0 where it does not
+abbrev pub code_of : Option Refusal → ℤ
+code_of None = pos 0
+code_of (Some r) = number_of r
 
 -- the reason that has a number. (Of a number that none has it is the last; no table has one, since fixed/specs/Ladder `Numbered` asks each rung's
 -- answer for the rung's number.)
