@@ -2,7 +2,20 @@
 use Rattle.std.proofs.Common.{◌≡◌, refl}
 use Rattle.fixed.specs.declared.refusal.Refusal.{Refusal}
 use Rattle.fixed.specs.declared.refusal.Refusal.TheVariants.{
-  Period, Gains, Untied, Limits, Rest, Sample, Tripped, Target, Rows, NotTripped, Broken, NoSheet, NoRoom, NoRow
+  Period,
+  Gains,
+  Untied,
+  Limits,
+  Rest,
+  Sample,
+  Tripped,
+  Target,
+  Rows,
+  NotTripped,
+  Broken,
+  NoSheet,
+  NoRoom,
+  NoRow,
 }
 use Rattle.fixed.specs.Refusal.{number_of, reason}
 

@@ -2,7 +2,20 @@
 use Rattle.std.specs.Prelude.{ℕ, cond, eqb, ℤ, pos, negsuc, Option, None, Some, Result, Ok, Err}
 use Rattle.fixed.specs.declared.refusal.Refusal.{Refusal}
 use Rattle.fixed.specs.declared.refusal.Refusal.TheVariants.{
-  Period, Gains, Untied, Limits, Rest, Sample, Tripped, Target, Rows, NotTripped, Broken, NoSheet, NoRoom, NoRow
+  Period,
+  Gains,
+  Untied,
+  Limits,
+  Rest,
+  Sample,
+  Tripped,
+  Target,
+  Rows,
+  NotTripped,
+  Broken,
+  NoSheet,
+  NoRoom,
+  NoRow,
 }
 
 abbrev pub number_of : Refusal → ℤ

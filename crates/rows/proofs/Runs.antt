@@ -8,6 +8,7 @@ use native.Mathlib.Omega.{arith}
 use native.Mathlib.Numerals.{add-one}
 use lib.IntN.{ℤ, pos}
 use lib.ListN.{length, take, drop, length-append}
+use mir.Val.{bool_byte}
 use Rattle.drive_record.specs.declared.Drive.{Drive}
 use Rattle.drive_record.proofs.Ranges.{Sound}
 use Rattle.stages.specs.declared.Stepped.{Stepped}
@@ -21,6 +22,11 @@ pub written_length : (d : Drive) (samples : List ℤ) (n : ℕ) → length (writ
 unfolding written_of four
 written_length d samples zero = refl
 written_length d samples (suc n) = let h = written_length d samples n in simp length-append (omega arith)
+
+-- a flag as a number
+pub one_byte : (b : Bool) → bool_byte b ≡ one b
+one_byte true = refl
+one_byte false = refl
 
 pub one_most : (b : Bool) → one b ≤ 1
 one_most true = omega arith

@@ -43,34 +43,25 @@ fn row_step(d: Drive, samples: &[i32], i: usize) -> Stepped
 }
 
 // The three compares and the number of a step, at a place.
+#[tactic(auto, unfolding(crate::specs::Rows::four))]
 fn put_row(out: &mut [i32], at: usize, s: Stepped)
     requires { at + 4 ≤ length out.old }
     ensures { out.new ≡ take_of at out.old ++ (four s ++ drop (at + 4) out.old) }
 {
-    let a = s.pulses.a;
-    let b = s.pulses.b;
-    let c = s.pulses.c;
-    let number = s.number;
-    out[at] = a;
-    out[at + 1] = b;
-    out[at + 2] = c;
-    out[at + 3] = number;
+    let four = [s.pulses.a, s.pulses.b, s.pulses.c, s.number];
+    out[at..at + 4].copy_from_slice(&four);
 }
 
 fn accepted_in(s: Stepped) -> usize
     ensures { result ≡ one (is_accepted s) }
 {
-    if s.number == 0 { 1 } else { 0 }
+    usize::from(s.number == 0)
 }
 
 fn clipped_in(s: Stepped) -> usize
     ensures { result ≡ one (is_clipped s) }
 {
-    if s.number == 0 & s.pulses.clipped {
-        1
-    } else {
-        0
-    }
+    usize::from((s.number == 0) & s.pulses.clipped)
 }
 
 // The first n rows.
@@ -81,24 +72,23 @@ fn rows_run(d: Drive, samples: &[i32], out: &mut [i32], n: usize) -> Ran
     let mut cur = d;
     let mut accepted: usize = 0;
     let mut clipped: usize = 0;
-    let mut i: usize = 0;
-    while i < n {
+    for i in 0..n {
         let s = row_step(cur, samples, i);
         put_row(out, 4 * i, s);
         accepted += accepted_in(s);
         clipped += clipped_in(s);
         cur = s.drive;
-        i += 1;
     }
     Ran {
         drive: cur,
         number: 0,
-        accepted: accepted,
-        clipped: clipped,
+        accepted,
+        clipped,
     }
 }
 
 // No row taken.
+#[tactic(auto, unfolding(crate::specs::Rows::no_rows))]
 fn no_rows(d: Drive, why: Refusal) -> Ran
     ensures { result ≡ no_rows d (number_of why) }
 {
@@ -112,6 +102,7 @@ fn no_rows(d: Drive, why: Refusal) -> Ran
 
 // Whether samples are in threes and output is there for four numbers a row. The rows are counted against the output in fours, so that no
 // product of lengths is formed.
+#[tactic(auto, unfolding(crate::specs::Rows::rows_fit))]
 fn rows_fit(samples: usize, out: usize) -> bool
     ensures { result ≡ rows_fit samples out }
 {
@@ -122,11 +113,7 @@ fn rows_fit(samples: usize, out: usize) -> bool
 pub fn run(d: Drive, samples: &[i32], out: &mut [i32]) -> Ran
     ensures { (result ≡ run_of d samples.now out.old) × (out.new ≡ output_after d samples.now out.old) }
 {
-    let Ok(_) = settings::check(d.settings) else {
-        return no_rows(d, Refusal::Broken);
-    };
-    let words_stand = drive_record::words_ok(d);
-    let broken = !words_stand;
+    let broken = !drive_record::sound(d);
     if broken {
         return no_rows(d, Refusal::Broken);
     }

@@ -1,25 +1,16 @@
 -- `rows::put_row` meets its contract.
 -- Assumes nothing.
-use native.Mathlib.Omega.{arith}
-use lib.ListN.{length-set}
+use Rattle.std.proofs.Common.{rules, ◌≡◌, to_z, of_z, w32}
 use Rattle.rows.specs.Rows.{four}
-use Rattle.stages.proofs.SteppedFromBits.{from_bits}
-use Rattle.rows.proofs.Lists.{set_four}
+use Rattle.rows.proofs.Lists.{copied_four}
 use Rattle.rows.proofs.put_row.Goals as goal
 
 pub returns : goal.returns
 unfolding four
 returns c =
-    let k = c.before.before.before.before in
-    let s = k.args.s in
-    let b = from_bits s _ k.well_formed.1.1.0.1.1 in
-    simp (b.a, b.b, b.c, b.number) (set_four s.pulses.a s.pulses.b s.pulses.c s.number k.args.out.now k.args.at k.requires)
-
-pub bounds-out-at-2 : goal.bounds-out-at-2
-bounds-out-at-2 c = simp length-set (omega arith)
-
-pub bounds-out-at-3 : goal.bounds-out-at-3
-bounds-out-at-3 c = simp length-set (omega arith)
-
-pub bounds-out-at-4 : goal.bounds-out-at-4
-bounds-out-at-4 c = simp length-set (omega arith)
+    let p = c.args.s.pulses in
+    let a : to_z w32 (of_z w32 p.a) ≡ p.a = search rules in
+    let b : to_z w32 (of_z w32 p.b) ≡ p.b = search rules in
+    let d : to_z w32 (of_z w32 p.c) ≡ p.c = search rules in
+    let n : to_z w32 (of_z w32 c.args.s.number) ≡ c.args.s.number = search rules in
+    copied_four _ _ _ _ c.args.out.now c.args.at (rw (a, b, d, n) at c.copy_from_slice.ensures.after)

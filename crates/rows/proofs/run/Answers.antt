@@ -1,43 +1,35 @@
--- `rows::run` meets its contract: a record whose settings are refused is broken, and so is one with a word out of range; past both tests it is sound.
+-- `rows::run` meets its contract.
 -- Assumes nothing.
-use Rattle.std.proofs.Common.{◌≡◌, refl, ap, sym, true, not, arith}
+use Rattle.std.proofs.Common.{◌≡◌, refl, ap, true, not, arith}
 use Rattle.drive_record.specs.Record.{sound, broken}
 use Rattle.fixed.proofs.Asked.{no, yes}
-use Rattle.settings.proofs.Ranges.{checked_accepted}
-use Rattle.drive_record.proofs.Ranges.{sound_parts, words_broken}
-use Rattle.drive.proofs.CallLaws.{refused_broken}
 use Rattle.rows.proofs.Outcomes.{room, run_14, run_9, run_0}
 use Rattle.rows.proofs.run.Goals as goal
 
-pub returns-in_default : goal.returns-in_default
-returns-in_default c =
-    let s = c.args in
-    let r = run_14 s.d s.samples.now s.out.now (refused_broken _ _ (sym c.in_default.ensures)) in
-    rw (r.0, r.1) (c.no_rows.ensures, refl)
-
 pub returns-then-broken : goal.returns-then-broken
+unfolding broken
 returns-then-broken c =
     let s = c.args in
-    let r = run_14 s.d s.samples.now s.out.now (words_broken _ (no c.words_ok-words_stand.ensures c.if-broken.true)) in
-    rw (r.0, r.1) (c.no_rows-then-broken.ensures, refl)
+    let r = run_14 s.d s.samples.now s.out.now (ap not (no c.sound-broken.ensures c.if-broken.true)) in
+    rw (r.0, r.1) (c.no_rows.ensures, refl)
 
 pub returns-then-not-rows_fit : goal.returns-then-not-rows_fit
 unfolding broken
 returns-then-not-rows_fit c =
     let s = c.args in
-    let k : sound s.d ≡ true = sound_parts _ (checked_accepted _ _ (sym c.in-Accepted.ensures)).0 (yes c.words_ok-words_stand.ensures c.if-broken.false) in
+    let k : sound s.d ≡ true = yes c.sound-broken.ensures c.if-broken.false in
     let r = run_9 s.d s.samples.now s.out.now (ap not k) (no c.rows_fit.ensures c.if-not-rows_fit.true) in
     rw (r.0, r.1) (c.no_rows-then-not-rows_fit.ensures, refl)
 
 pub rows_run-requires : goal.rows_run-requires
 rows_run-requires c =
-    let k : sound c.args.d ≡ true = sound_parts _ (checked_accepted _ _ (sym c.in-Accepted.ensures)).0 (yes c.words_ok-words_stand.ensures c.if-broken.false) in
+    let k : sound c.args.d ≡ true = yes c.sound-broken.ensures c.if-broken.false in
     (k, omega arith, room _ _ (yes c.rows_fit.ensures c.if-not-rows_fit.false))
 
 pub returns : goal.returns
 unfolding broken
 returns c =
     let s = c.args in
-    let k : sound s.d ≡ true = sound_parts _ (checked_accepted _ _ (sym c.in-Accepted.ensures)).0 (yes c.words_ok-words_stand.ensures c.if-broken.false) in
+    let k : sound s.d ≡ true = yes c.sound-broken.ensures c.if-broken.false in
     let r = run_0 s.d s.samples.now s.out.now (ap not k) (yes c.rows_fit.ensures c.if-not-rows_fit.false) in
     rw (r.0, r.1) c.rows_run.ensures
