@@ -113,7 +113,8 @@ fn rows_fit(samples: usize, out: usize) -> bool
 pub fn run(d: Drive, samples: &[i32], out: &mut [i32]) -> Ran
     ensures { (result ≡ run_of d samples.now out.old) × (out.new ≡ output_after d samples.now out.old) }
 {
-    let broken = !drive_record::sound(d);
+    let intact = drive_record::sound(d);
+    let broken = !intact;
     if broken {
         return no_rows(d, Refusal::Broken);
     }
