@@ -8,20 +8,19 @@ use Prim.Native.Nat.{ℕ, zero, suc}
 use lib.Dec.{leb}
 use lib.IntN.{ℤ, pos}
 use lib.ListN.{length}
+use Rattle.std.specs.Prelude.{Ok, Err}
 use Rattle.fixed.specs.Fixed.{within}
 use Rattle.fixed.specs.Ladder.{answer_of, Reached}
 use Rattle.fixed.proofs.Choice.{by_test}
 use Rattle.fixed.proofs.HeldLaws.{equal_is}
 use Rattle.fixed.proofs.LadderLaws.{Climbs, exactly, every, holds, all_pass_lem}
 use Rattle.settings.specs.declared.Settings.{Settings}
-use Rattle.settings.specs.declared.Checked.TheVariants.{Accepted}
 use Rattle.settings.specs.Settings.{refusals, refusal, accepted, checked, checked_number, period_ok, gains_ok, gains_tied, limits_ok, rest_ok}
 use Rattle.settings.proofs.Ranges.{checked_is}
 use Rattle.drive_record.specs.declared.Drive.{Drive}
 use Rattle.drive_record.specs.Record.{broken}
 use Rattle.stages.specs.declared.Stepped.{Stepped}
 use Rattle.stages.specs.Step.{rules_3_to_9, rules_6_to_9, outcome, advanced}
-use Rattle.drive.specs.declared.Made.TheVariants.{Ready}
 use Rattle.drive.specs.Calls.{fresh, make_table, made, made_number, with_trip, refused, step_table}
 use Rattle.drive.specs.Calls.{stepped, answered, with_target, target_table, targeted, clear_table, cleared}
 use Rattle.drive.proofs.CallLaws.{made_is}
@@ -54,11 +53,11 @@ own d samples zero = refl
 own d samples (suc n) = own d samples n
 
 -- ════ each call is its table, with the numbers of its rows, a `refl` for each
-check_climbs : (s : Settings) → Climbs checked_number (refusals s) (Accepted s) (checked s)
+check_climbs : (s : Settings) → Climbs checked_number (refusals s) (Ok s) (checked s)
 unfolding checked
 check_climbs s = record { is = refl; numbered = (refl, (refl, (refl, (refl, (refl, refl))))); apart = refl }
 
-make_climbs : (s : Settings) → Climbs made_number (make_table s) (Ready (fresh s)) (made s)
+make_climbs : (s : Settings) → Climbs made_number (make_table s) (Ok (fresh s)) (made s)
 unfolding made
 make_climbs s = record { is = refl; numbered = (refl, (refl, (refl, (refl, (refl, refl))))); apart = refl }
 

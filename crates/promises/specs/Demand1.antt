@@ -1,17 +1,16 @@
 -- Demand 1: bad settings, records, samples, targets and lists are refused with the rules' numbers, each exactly when its table says, with the effect
 -- that it says. The tables stand beside the calls: settings/specs/Settings `refusals`, drive/specs/Calls, rows/specs/Rows; what `Exactly` says of one is
 -- in fixed/specs/Ladder.
-use Rattle.std.specs.Prelude.{◌≡◌, Bool, true, false, List, [], ◌++◌, ◌↔◌, ℕ, ◌*◌, ℤ, pos, drop}
+use Rattle.std.specs.Prelude.{◌≡◌, Bool, true, false, List, [], ◌++◌, ◌↔◌, ℕ, ◌*◌, ℤ, pos, drop, Ok}
+use Rattle.fixed.specs.Refusal.{refuse}
 use Rattle.fixed.specs.Fixed.{within}
 use Rattle.fixed.specs.Ladder.{Exactly}
 use Rattle.settings.specs.declared.Settings.{Settings}
-use Rattle.settings.specs.declared.Checked.TheVariants.{Accepted}
 use Rattle.settings.specs.Settings.{refusals, refusal, accepted, checked, checked_number}
 use Rattle.settings.specs.Words.{words_of, values_of}
 use Rattle.drive_record.specs.declared.Drive.{Drive}
 use Rattle.stages.specs.declared.Stepped.{Stepped}
 use Rattle.stages.specs.Step.{advanced}
-use Rattle.drive.specs.declared.Made.TheVariants.{Ready, Refused}
 use Rattle.drive.specs.Calls.{fresh, make_table, made, made_number, step_table, stepped, answered, with_target, target_table, targeted, clear_table, cleared}
 use Rattle.sheet.specs.Sheet.{read_sheet, wrote}
 use Rattle.sheet.specs.Calls.{reading_of, writing_of}
@@ -20,10 +19,10 @@ use Rattle.rows.specs.Rows.{is_accepted, no_rows, ran_of, written_of, rows_in, r
 
 -- the table of numbers, for each call: the settings' check and what they make, a step, a target, a clear
 abbrev pub CheckTable : Type 0
-CheckTable = (s : Settings) → Exactly checked_number (refusals s) (Accepted s) (checked s)
+CheckTable = (s : Settings) → Exactly checked_number (refusals s) (Ok s) (checked s)
 
 abbrev pub MakeTable : Type 0
-MakeTable = (s : Settings) → Exactly made_number (make_table s) (Ready (fresh s)) (made s)
+MakeTable = (s : Settings) → Exactly made_number (make_table s) (Ok (fresh s)) (made s)
 
 abbrev pub StepTable : Type 0
 StepTable = (d : Drive) (ia ib count : ℤ) → Exactly (λ a. a.number) (step_table d ia ib count) (advanced d ia ib count) (stepped d ia ib count)
@@ -52,8 +51,8 @@ RunTable = (d : Drive) (samples out : List ℤ) →
 -- from settings either a drive or a number, never both: accepted, the fresh drive, and of the check their own words; else the number that
 -- refuses them, and no words
 pub record Either (s : Settings) : Type 0 where
-  pub drive : accepted s ≡ true → made s ≡ Ready (fresh s)
-  pub number : accepted s ≡ false → made s ≡ Refused (refusal s)
+  pub drive : accepted s ≡ true → made s ≡ Ok (fresh s)
+  pub number : accepted s ≡ false → made s ≡ refuse (refusal s)
   pub values : accepted s ≡ true → values_of (checked s) ≡ words_of s
   pub no_values : accepted s ≡ false → values_of (checked s) ≡ []
 
