@@ -19,6 +19,13 @@ pub struct Rotor {
     pub q: i32,
 }
 
+// How the turning frame stands in the other: the sine and cosine of its angle, 4096 being 1.0.
+#[derive(Clone, Copy)]
+pub struct Heading {
+    pub sin: i32,
+    pub cos: i32,
+}
+
 // (a·m + b·n)/4096 down.
 fn sum(a: i32, m: i32, b: i32, n: i32) -> i32
     requires { FrameSized a b m n }
@@ -40,28 +47,27 @@ pub fn clarke(ia: i32, ib: i32) -> Stator
     ensures { result ≡ clarke_of ia ib }
 {
     let beta = fixed::scaled(2 * ib + ia, 2365, 4096) as i32;
-    Stator {
-        alpha: ia,
-        beta: beta,
-    }
+    Stator { alpha: ia, beta }
 }
 
-pub fn park(v: Stator, sin: i32, cos: i32) -> Rotor
-    requires { FrameSized v.alpha v.beta sin cos }
-    ensures { result ≡ park_of v sin cos }
+#[tactic(auto, unfolding(crate::specs::Frames::park))]
+pub fn park(v: Stator, h: Heading) -> Rotor
+    requires { FrameSized v.alpha v.beta h.sin h.cos }
+    ensures { result ≡ park_of v h.sin h.cos }
 {
     Rotor {
-        d: sum(v.alpha, cos, v.beta, sin),
-        q: difference(v.beta, cos, v.alpha, sin),
+        d: sum(v.alpha, h.cos, v.beta, h.sin),
+        q: difference(v.beta, h.cos, v.alpha, h.sin),
     }
 }
 
-pub fn inverse_park(v: Rotor, sin: i32, cos: i32) -> Stator
-    requires { FrameSized v.d v.q sin cos }
-    ensures { result ≡ inverse_park v sin cos }
+#[tactic(auto, unfolding(crate::specs::Frames::inverse_park))]
+pub fn inverse_park(v: Rotor, h: Heading) -> Stator
+    requires { FrameSized v.d v.q h.sin h.cos }
+    ensures { result ≡ inverse_park v h.sin h.cos }
 {
     Stator {
-        alpha: difference(v.d, cos, v.q, sin),
-        beta: sum(v.q, cos, v.d, sin),
+        alpha: difference(v.d, h.cos, v.q, h.sin),
+        beta: sum(v.q, h.cos, v.d, h.sin),
     }
 }

@@ -3,7 +3,7 @@
 -- Assumes nothing.
 use mathlib.Core.Path.{◌≡◌, refl, subst, sym, ◌∙◌}
 use mathlib.Core.Bool.{true}
-use Prim.Native.Nat.{ℕ, zero, suc, ◌+◌, ◌*◌, ◌/◌, ◌≤◌, ◌<◌}
+use Prim.Native.Nat.{ℕ, ◌+◌, ◌*◌, ◌/◌, ◌≤◌, ◌<◌}
 use native.Mathlib.Omega.{arith}
 use lib.Dec.{lit<}
 use lib.IntN.{ℤ, pos, negsuc, neg_ℤ, nat_abs, ◌+ℤ◌, ◌-ℤ◌, ◌*ℤ◌}
@@ -12,6 +12,8 @@ use Rattle.fixed.specs.Fixed.{down}
 use Rattle.fixed.proofs.Parts.{order, diffs, is_diff, parts-+, parts--, P-neg, N-neg}
 use Rattle.fixed.proofs.Ring.{*-+}
 use Rattle.fixed.proofs.Size.{abs_parts, abs-+}
+use Rattle.modulation.specs.declared.Turn.{Turn}
+use Rattle.modulation.specs.declared.Turn.TheVariants.{First, Second, Third}
 use Rattle.modulation.specs.declared.Sector.{Sector}
 use Rattle.modulation.specs.declared.Times.{Times}
 use Rattle.modulation.specs.Modulation.{A, B, W, entries_of, sector_of, time_of, cut, times_of, compare_at, placed, modulated}
@@ -77,23 +79,23 @@ at_third t w f g c p = rw (is_diff t, is_diff w, is_diff f, is_diff g, is_diff c
 abbrev both : Sector → ℤ
 both r = r.t1 +ℤ r.t2
 
-abbrev sum : ℕ → ℤ → Sector → Times → ℤ
+abbrev sum : Turn → ℤ → Sector → Times → ℤ
 sum k t r h = both r *ℤ compare_at k t h.t1 h.t2 +ℤ t *ℤ level k r
 
-abbrev Close : ℕ → ℤ → Sector → Times → Type 0
-Close k t r h = Short (both r +ℤ both r) (sum 0 t r h +ℤ r.t1) (sum k t r h)
+abbrev Close : Turn → ℤ → Sector → Times → Type 0
+Close k t r h = Short (both r +ℤ both r) (sum First t r h +ℤ r.t1) (sum k t r h)
 
-sum_close : (k : ℕ) (t : ℤ) (r : Sector) (h : Times) → Bounds t r.t1 r.t2 h.t1 h.t2 → Close k t r h
+sum_close : (k : Turn) (t : ℤ) (r : Sector) (h : Times) → Bounds t r.t1 r.t2 h.t1 h.t2 → Close k t r h
 unfolding compare_at
-sum_close zero t r h q =
+sum_close First t r h q =
     let f = r.t1 in
     let under : f <ℤ (both r +ℤ both r) = omega (arith, order, q.some, q.second, parts-+ f r.t2, parts-+ (both r) (both r)) in
-    at_first (both r) f (sum 0 t r h) q.first under
-sum_close (suc zero) t r h q =
-    at_second t (both r) r.t1 r.t2 h.t1 (compare_at 0 t h.t1 h.t2) (*-+ t r.t1 r.t2) refl q.one_most q.one_least
-sum_close (suc (suc k)) t r h q =
-    let p = compare_at 0 t h.t1 h.t2 in
-    subst (λ (c : ℤ). Short (both r +ℤ both r) (sum 0 t r h +ℤ r.t1) (both r *ℤ c +ℤ t *ℤ pos 0)) (sums p h.t1 h.t2)
+    at_first (both r) f (sum First t r h) q.first under
+sum_close Second t r h q =
+    at_second t (both r) r.t1 r.t2 h.t1 (compare_at First t h.t1 h.t2) (*-+ t r.t1 r.t2) refl q.one_most q.one_least
+sum_close Third t r h q =
+    let p = compare_at First t h.t1 h.t2 in
+    subst (λ (c : ℤ). Short (both r +ℤ both r) (sum First t r h +ℤ r.t1) (both r *ℤ c +ℤ t *ℤ pos 0)) (sums p h.t1 h.t2)
     (at_third t (both r) r.t1 r.t2 (h.t1 +ℤ h.t2) p refl q.first q.both_most q.both_least)
   where
     sums : (p a b : ℤ) → p +ℤ (a +ℤ b) ≡ p +ℤ a +ℤ b
@@ -103,26 +105,26 @@ sum_close (suc (suc k)) t r h q =
 within_wide : (w z : ℤ) → neg_ℤ (w +ℤ w) <ℤ z → z <ℤ (w +ℤ w) → nat_abs z < 2 * nat_abs w
 within_wide w z l h = omega (arith, abs-+ w w, abs_under (w +ℤ w) z l h)
 
-pair : (t : ℤ) (r : Sector) (h : Times) (i j : ℕ) {d : ℤ} → Bounds t r.t1 r.t2 h.t1 h.t2 → level i r -ℤ level j r ≡ d
+pair : (t : ℤ) (r : Sector) (h : Times) (i j : Turn) {d : ℤ} → Bounds t r.t1 r.t2 h.t1 h.t2 → level i r -ℤ level j r ≡ d
     → NearShare (both r) t (on t (compare_at i t h.t1 h.t2) -ℤ on t (compare_at j t h.t1 h.t2)) d
 pair t r h i j {d} q e =
     let w = both r in
     let c = compare_at i t h.t1 h.t2 in
     let k = compare_at j t h.t1 h.t2 in
-    let a = apart w (w +ℤ w) t c k (level i r) (level j r) (sum 0 t r h +ℤ r.t1) (sum_close i t r h q) (sum_close j t r h q) in
+    let a = apart w (w +ℤ w) t c k (level i r) (level j r) (sum First t r h +ℤ r.t1) (sum_close i t r h q) (sum_close j t r h q) in
     rw (sym e) (record { near = within_wide w _ a.0 a.1 })
 
 -- ════ W is the largest of the three that the voltage asks
-level_in : (k : ℕ) (r : Sector) → pos 0 ≤ℤ r.t1 → pos 0 ≤ℤ r.t2 → (pos 0 ≤ℤ level k r) × (level k r ≤ℤ both r)
-level_in zero r h k = omega (arith, order, parts-+ r.t1 r.t2)
-level_in (suc zero) r h k = omega (arith, order, parts-+ r.t1 r.t2)
-level_in (suc (suc i)) r h k = omega (arith, order, parts-+ r.t1 r.t2)
+level_in : (k : Turn) (r : Sector) → pos 0 ≤ℤ r.t1 → pos 0 ≤ℤ r.t2 → (pos 0 ≤ℤ level k r) × (level k r ≤ℤ both r)
+level_in First r h k = omega (arith, order, parts-+ r.t1 r.t2)
+level_in Second r h k = omega (arith, order, parts-+ r.t1 r.t2)
+level_in Third r h k = omega (arith, order, parts-+ r.t1 r.t2)
 
 size_most : (w z : ℤ) → neg_ℤ w ≤ℤ z → z ≤ℤ w → nat_abs z ≤ nat_abs w
 size_most w (pos n) l h = omega (arith, order, abs_parts w)
 size_most w (negsuc n) l h = omega (arith, order, abs_parts w, P-neg w, N-neg w)
 
-at_most : (i j : ℕ) (r : Sector) {d : ℤ} → pos 0 ≤ℤ r.t1 → pos 0 ≤ℤ r.t2 → level i r -ℤ level j r ≡ d → nat_abs d ≤ nat_abs (both r)
+at_most : (i j : Turn) (r : Sector) {d : ℤ} → pos 0 ≤ℤ r.t1 → pos 0 ≤ℤ r.t2 → level i r -ℤ level j r ≡ d → nat_abs d ≤ nat_abs (both r)
 at_most i j r h k e =
     let a = level_in i r h k in
     let b = level_in j r h k in

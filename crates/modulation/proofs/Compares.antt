@@ -4,7 +4,7 @@
 -- Assumes nothing.
 use mathlib.Core.Path.{◌≡◌, sym, ◌∙◌}
 use mathlib.Core.Bool.{false}
-use Prim.Native.Nat.{ℕ, zero, suc, ◌<◌}
+use Prim.Native.Nat.{ℕ, ◌<◌}
 use native.Mathlib.Omega.{arith}
 use lib.Dec.{lit<}
 use lib.IntN.{ℤ, pos, negsuc, neg_ℤ, nat_abs, ◌+ℤ◌, ◌-ℤ◌, ◌*ℤ◌}
@@ -14,6 +14,8 @@ use Rattle.fixed.proofs.Parts.{order, diffs, is_diff, parts-+, parts--, P-neg, N
 use Rattle.fixed.proofs.Ring.{*-nonneg}
 use Rattle.fixed.proofs.Size.{abs_parts}
 use Rattle.fixed.proofs.DownLaws.{down_low, down_high, down_low_parts, down_high_parts, le_down}
+use Rattle.modulation.specs.declared.Turn.{Turn}
+use Rattle.modulation.specs.declared.Turn.TheVariants.{First, Second, Third}
 use Rattle.modulation.specs.declared.Sector.{Sector}
 use Rattle.modulation.specs.declared.Times.{Times}
 use Rattle.modulation.specs.Modulation.{A, B, entries_of, sector_of, time_of, times_of, compare_at}
@@ -37,8 +39,8 @@ times_room t va vb h = clipped_room t _ _ h (times_up t va vb h).0 (times_up t v
 
 -- ════ the compares lie within 0..T
 -- the first, the second and the third of them
-all_within : (t : ℤ) (h : Times) → Room t h → InPeriod t (compare_at 0 t h.t1 h.t2)
-    × InPeriod t (compare_at 1 t h.t1 h.t2) × InPeriod t (compare_at 2 t h.t1 h.t2)
+all_within : (t : ℤ) (h : Times) → Room t h → InPeriod t (compare_at First t h.t1 h.t2)
+    × InPeriod t (compare_at Second t h.t1 h.t2) × InPeriod t (compare_at Third t h.t1 h.t2)
 unfolding compare_at
 all_within t h r =
     let t1 = h.t1 in
@@ -57,11 +59,11 @@ all_within t h r =
       parts-+ (p +ℤ t1) t2,
     )
 
-pub compare_within : (k : ℕ) (t : ℤ) (h : Times) → Room t h → InPeriod t (compare_at k t h.t1 h.t2)
+pub compare_within : (k : Turn) (t : ℤ) (h : Times) → Room t h → InPeriod t (compare_at k t h.t1 h.t2)
 unfolding compare_at
-compare_within zero t h r = (all_within t h r).0
-compare_within (suc zero) t h r = (all_within t h r).1
-compare_within (suc (suc k)) t h r = (all_within t h r).2
+compare_within First t h r = (all_within t h r).0
+compare_within Second t h r = (all_within t h r).1
+compare_within Third t h r = (all_within t h r).2
 
 pub compares_within : (t va vb : ℤ) → pos 0 ≤ℤ t → AllInPeriod t (modulated t va vb)
 unfolding modulated placed
@@ -95,20 +97,20 @@ sums_close : (t f g m n p : ℤ) → Short (pos unit) (t *ℤ f) (pos unit *ℤ 
 sums_close t f g m n p =
     rw (is_diff t, is_diff f, is_diff g, is_diff m, is_diff n, is_diff p) (simp diffs (omega arith))
 
-abbrev sum : ℕ → ℤ → Sector → ℤ
+abbrev sum : Turn → ℤ → Sector → ℤ
 sum k t r = pos unit *ℤ compare_at k t (time_of t r.t1) (time_of t r.t2) +ℤ t *ℤ level k r
 
-sum_close : (k : ℕ) (t : ℤ) (r : Sector) → Close (sum 0 t r) (sum k t r)
+sum_close : (k : Turn) (t : ℤ) (r : Sector) → Close (sum First t r) (sum k t r)
 unfolding compare_at
 sum_close k t r = at k
   where
-    all : Close (sum 0 t r) (sum 0 t r) × Close (sum 0 t r) (sum 1 t r) × Close (sum 0 t r) (sum 2 t r)
-    all = sums_close t r.t1 r.t2 _ _ (compare_at 0 t (time_of t r.t1) (time_of t r.t2)) (time_short t r.t1) (time_short t r.t2)
+    all : Close (sum First t r) (sum First t r) × Close (sum First t r) (sum Second t r) × Close (sum First t r) (sum Third t r)
+    all = sums_close t r.t1 r.t2 _ _ (compare_at First t (time_of t r.t1) (time_of t r.t2)) (time_short t r.t1) (time_short t r.t2)
 
-    at : (k : ℕ) → Close (sum 0 t r) (sum k t r)
-    at zero = all.0
-    at (suc zero) = all.1
-    at (suc (suc k)) = all.2
+    at : (k : Turn) → Close (sum First t r) (sum k t r)
+    at First = all.0
+    at Second = all.1
+    at Third = all.2
 
 -- two compares c and d with the levels l and m, whose sums are less than n below the same: then w times the difference of the on_times is less than n
 -- from t·(l − m)
@@ -122,12 +124,12 @@ abs_under n (pos k) l h = omega (arith, order, abs_parts n)
 abs_under n (negsuc k) l h = omega (arith, order, abs_parts n, P-neg n, N-neg n)
 
 -- any two places, of times that are not clipped
-pair : (t : ℤ) (r : Sector) (h : Times) (i j : ℕ) {d : ℤ} → Kept t (time_of t r.t1) (time_of t r.t2) h → level i r -ℤ level j r ≡ d
+pair : (t : ℤ) (r : Sector) (h : Times) (i j : Turn) {d : ℤ} → Kept t (time_of t r.t1) (time_of t r.t2) h → level i r -ℤ level j r ≡ d
     → Near t (on t (compare_at i t h.t1 h.t2) -ℤ on t (compare_at j t h.t1 h.t2)) d
 pair t r h i j {d} w e =
     let m = time_of t r.t1 in
     let n = time_of t r.t2 in
-    let a = apart (pos unit) (pos 33554432) t (compare_at i t m n) (compare_at j t m n) (level i r) (level j r) (sum 0 t r)
+    let a = apart (pos unit) (pos 33554432) t (compare_at i t m n) (compare_at j t m n) (level i r) (level j r) (sum First t r)
     (sum_close i t r) (sum_close j t r) in
     rw (w.one, w.two, sym e) (record { near = abs_under (pos 33554432) _ a.0 a.1 })
 

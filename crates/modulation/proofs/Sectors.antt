@@ -5,7 +5,7 @@
 use mathlib.Core.Path.{◌≡◌, ap, sym, ◌∙◌}
 use mathlib.Core.Bool.{Bool, true, false, not, cond}
 use mathlib.Core.Logic.{◌⊎◌, inl, inr}
-use Prim.Native.Nat.{ℕ, zero, suc, ◌+◌, ◌≤◌}
+use Prim.Native.Nat.{ℕ, ◌+◌, ◌≤◌}
 use native.Mathlib.Omega.{arith}
 use lib.Dec.{T}
 use lib.IntN.{ℤ, pos, neg_ℤ, nat_abs, ◌+ℤ◌, ◌-ℤ◌, ◌*ℤ◌}
@@ -13,15 +13,17 @@ use lib.Signed.{◌≤ℤ◌, ◌<ℤ◌, lt_z, lt_z_yes, lt_z_no}
 use Rattle.fixed.proofs.Parts.{P, N, order, parts-+, parts--, parts-*, P-neg, N-neg}
 use Rattle.fixed.proofs.Size.{abs_neg}
 use Rattle.modulation.specs.declared.Entries.{Entries}
+use Rattle.modulation.specs.declared.Turn.{Turn}
+use Rattle.modulation.specs.declared.Turn.TheVariants.{First, Second, Third}
 use Rattle.modulation.specs.declared.Sector.{Sector}
 use Rattle.modulation.specs.Modulation.{A, B, entries_of, bit, sector_number, sector_at, sector_of}
 
 -- ════ what is shown of a row
 -- the level of a phase that goes on at place k: by how much it is asked to be on for longer than the third, in T/2^24
-abbrev pub level : ℕ → Sector → ℤ
-level zero r = r.t1 +ℤ r.t2
-level (suc zero) r = r.t2
-level (suc (suc k)) r = pos 0
+abbrev pub level : Turn → Sector → ℤ
+level First r = r.t1 +ℤ r.t2
+level Second r = r.t2
+level Third r = pos 0
 
 pub record Serves (e : Entries) (r : Sector) : Type 0 where
   pub one : pos 0 ≤ℤ r.t1

@@ -1,9 +1,11 @@
 -- Space-vector modulation, as docs/RULES.md, "Modulation", has it: from a voltage (vα, vβ) and a period T to three compares.
-use Rattle.std.specs.Prelude.{◌≡◌, ℕ, zero, suc, ◌+◌, ◌*◌, ◌≤◌, ◌<◌, true, false, cond, List, [], ◌∷◌, ◌⊎◌, ℤ, pos, neg_ℤ, nat_abs, ◌+ℤ◌, ◌-ℤ◌, ◌*ℤ◌, get_or}
+use Rattle.std.specs.Prelude.{◌≡◌, ℕ, ◌+◌, ◌*◌, ◌≤◌, ◌<◌, true, false, cond, List, [], ◌∷◌, ◌⊎◌, ℤ, pos, neg_ℤ, nat_abs, ◌+ℤ◌, ◌-ℤ◌, ◌*ℤ◌, get_or}
 use Rattle.std.specs.Prelude.{◌≤ℤ◌, ◌<ℤ◌}
 use Rattle.std.specs.Int.Signed.{lt_z}
 use Rattle.fixed.specs.Fixed.{down}
 use Rattle.modulation.specs.declared.Entries.{Entries}
+use Rattle.modulation.specs.declared.Turn.{Turn}
+use Rattle.modulation.specs.declared.Turn.TheVariants.{First, Second, Third}
 use Rattle.modulation.specs.declared.Sector.{Sector}
 use Rattle.modulation.specs.declared.Times.{Times}
 use Rattle.modulation.specs.declared.Pulses.{Pulses}
@@ -35,28 +37,28 @@ bit v w = cond (lt_z (pos 0) v) w 0
 unfoldable pub sector_number : Entries → ℕ
 sector_number e = bit e.x 1 + bit (neg_ℤ e.z) 2 + bit (neg_ℤ e.y) 4
 
--- a row of the table: the entries for t1 and t2, and at which place, 0 being the first, the phases a, b and c go on
-abbrev pub sector : ℤ → ℤ → ℕ → ℕ → ℕ → Sector
+-- a row of the table: the entries for t1 and t2, and at which place the phases a, b and c go on
+abbrev pub sector : ℤ → ℤ → Turn → Turn → Turn → Sector
 sector t1 t2 a b c = record { t1 = t1; t2 = t2; a = a; b = b; c = c }
 
 -- the order in which the phases go on, as the table's last column has it
 abbrev pub a_b_c : ℤ → ℤ → Sector
-a_b_c t1 t2 = sector t1 t2 0 1 2
+a_b_c t1 t2 = sector t1 t2 First Second Third
 
 abbrev pub b_a_c : ℤ → ℤ → Sector
-b_a_c t1 t2 = sector t1 t2 1 0 2
+b_a_c t1 t2 = sector t1 t2 Second First Third
 
 abbrev pub a_c_b : ℤ → ℤ → Sector
-a_c_b t1 t2 = sector t1 t2 0 2 1
+a_c_b t1 t2 = sector t1 t2 First Third Second
 
 abbrev pub c_b_a : ℤ → ℤ → Sector
-c_b_a t1 t2 = sector t1 t2 2 1 0
+c_b_a t1 t2 = sector t1 t2 Third Second First
 
 abbrev pub b_c_a : ℤ → ℤ → Sector
-b_c_a t1 t2 = sector t1 t2 2 0 1
+b_c_a t1 t2 = sector t1 t2 Third First Second
 
 abbrev pub c_a_b : ℤ → ℤ → Sector
-c_a_b t1 t2 = sector t1 t2 1 2 0
+c_a_b t1 t2 = sector t1 t2 Second Third First
 
 -- the table, rows 0 to 6
 abbrev pub sectors : ℤ → ℤ → ℤ → List Sector
@@ -97,10 +99,10 @@ unfoldable pub times_of : ℤ → Sector → Times
 times_of t r = clipped_times t (time_of t r.t1) (time_of t r.t2)
 
 -- of the phase that is on first (T − t1 − t2)/2 down, of the second t1 more, of the third t2 more again
-unfoldable pub compare_at : ℕ → ℤ → ℤ → ℤ → ℤ
-compare_at zero t t1 t2 = down (t -ℤ t1 -ℤ t2) (pos 2)
-compare_at (suc zero) t t1 t2 = down (t -ℤ t1 -ℤ t2) (pos 2) +ℤ t1
-compare_at (suc (suc k)) t t1 t2 = down (t -ℤ t1 -ℤ t2) (pos 2) +ℤ t1 +ℤ t2
+unfoldable pub compare_at : Turn → ℤ → ℤ → ℤ → ℤ
+compare_at First t t1 t2 = down (t -ℤ t1 -ℤ t2) (pos 2)
+compare_at Second t t1 t2 = down (t -ℤ t1 -ℤ t2) (pos 2) +ℤ t1
+compare_at Third t t1 t2 = down (t -ℤ t1 -ℤ t2) (pos 2) +ℤ t1 +ℤ t2
 
 -- each phase takes the compare of its place
 unfoldable pub placed : ℤ → Sector → Times → Pulses

@@ -18,11 +18,15 @@ ghost use Rattle.modulation.specs.Modulation.{
   modulated,
   longest,
   entry_end,
+  InPeriod,
   Period,
   Small,
   Time,
   Room,
 };
+ghost use Rattle.modulation.specs.declared.Turn.TheVariants.{First};
+
+use crate::Turn::{First, Second, Third};
 
 // The compares of the phases a, b and c, and whether the voltage was more than the period holds.
 #[derive(Clone, Copy)]
@@ -41,14 +45,22 @@ pub struct Entries {
     pub z: i32,
 }
 
-// A row of the sector table: the entries for t1 and t2, and the place (0, 1, 2) at which each phase goes on.
+// The turns in which the phases go on.
+#[derive(Clone, Copy)]
+pub enum Turn {
+    First,
+    Second,
+    Third,
+}
+
+// A row of the sector table: the entries for t1 and t2, and the turn of each phase.
 #[derive(Clone, Copy)]
 pub struct Sector {
     pub t1: i32,
     pub t2: i32,
-    pub a: u8,
-    pub b: u8,
-    pub c: u8,
+    pub a: Turn,
+    pub b: Turn,
+    pub c: Turn,
 }
 
 // The times of the two active vectors.
@@ -72,12 +84,15 @@ fn entries_of(va: i32, vb: i32) -> Entries
     }
 }
 
+#[tactic(auto, unfolding(crate::specs::Modulation::bit))]
 fn bit(v: i32, w: u32) -> u32
-    ensures { result ≡ bit_of v w }
+    ensures value { result ≡ bit_of v w }
+    ensures most { result ≤ w }
 {
     if 0 < v { w } else { 0 }
 }
 
+#[tactic(auto, unfolding(crate::specs::Modulation::sector_number))]
 fn sector_number(e: Entries) -> u32
     requires { Small e }
     ensures { result ≡ sector_number e }
@@ -85,31 +100,27 @@ fn sector_number(e: Entries) -> u32
     bit(e.x, 1) + bit(-e.z, 2) + bit(-e.y, 4)
 }
 
-fn sector_with(t1: i32, t2: i32, a: u8, b: u8, c: u8) -> Sector
+// A row in a line, so that the table can be read as one.
+fn sector_with(t1: i32, t2: i32, a: Turn, b: Turn, c: Turn) -> Sector
     ensures { result ≡ sector t1 t2 a b c }
 {
-    Sector {
-        t1: t1,
-        t2: t2,
-        a: a,
-        b: b,
-        c: c,
-    }
+    Sector { t1, t2, a, b, c }
 }
 
-// The table: which entries are t1 and t2, and at which place the phases a, b and c go on.
+// The table: which entries are t1 and t2, and in which turns the phases a, b and c go on.
+#[tactic(auto, unfolding(crate::specs::Modulation::sector_at))]
 fn sector_at(n: u32, e: Entries) -> Sector
     requires { Small e }
     ensures { result ≡ sector_at n e }
 {
     match n {
-        1 => sector_with(e.z, e.y, 1, 0, 2),
-        2 => sector_with(e.y, -e.x, 0, 2, 1),
-        3 => sector_with(-e.z, e.x, 0, 1, 2),
-        4 => sector_with(-e.x, e.z, 2, 1, 0),
-        5 => sector_with(e.x, -e.y, 2, 0, 1),
-        6 => sector_with(-e.y, -e.z, 1, 2, 0),
-        _ => sector_with(0, 0, 0, 1, 2),
+        1 => sector_with(e.z, e.y, Second, First, Third),
+        2 => sector_with(e.y, -e.x, First, Third, Second),
+        3 => sector_with(-e.z, e.x, First, Second, Third),
+        4 => sector_with(-e.x, e.z, Third, Second, First),
+        5 => sector_with(e.x, -e.y, Third, First, Second),
+        6 => sector_with(-e.y, -e.z, Second, Third, First),
+        _ => sector_with(0, 0, First, Second, Third),
     }
 }
 
@@ -131,51 +142,60 @@ fn share(t: i32, sum: i32, x: i32) -> i32
 }
 
 // The clipping rule: both times keep their proportion, and so the voltage its angle.
+// (It takes two numbers, as `Times` says whether they have been clipped.)
+#[tactic(auto, unfolding(crate::specs::Modulation::clipped_times, crate::specs::Modulation::cut))]
 fn clip(t: i32, t1: i32, t2: i32) -> Times
     requires { Period t × Time t1 × Time t2 }
     ensures { result ≡ clipped_times t t1 t2 }
 {
     let sum = t1 + t2;
     if t < sum {
-        let first = share(t, sum, t1);
-        let second = share(t, sum, t2);
         Times {
-            t1: first,
-            t2: second,
+            t1: share(t, sum, t1),
+            t2: share(t, sum, t2),
             clipped: true,
         }
     } else {
         Times {
-            t1: t1,
-            t2: t2,
+            t1,
+            t2,
             clipped: false,
         }
     }
 }
 
-// The compare of a phase that goes on at place k.
-fn compare(k: u8, t: i32, t1: i32, t2: i32) -> i32
-    requires { (nat_abs t ≤ longest) × (nat_abs t1 ≤ longest) × (nat_abs t2 ≤ longest) }
-    ensures { result ≡ compare_at k t t1 t2 }
+// The compare of the phase that goes on first.
+fn first_compare(t: i32, h: Times) -> i32
+    requires { Period t × Room t h }
+    ensures value { result ≡ compare_at First t h.t1 h.t2 }
+    ensures within { InPeriod t result }
 {
-    let first = fixed::down((t - t1 - t2) as i64, 2) as i32;
-    if k == 0 {
-        first
-    } else if k == 1 {
-        first + t1
-    } else {
-        first + t1 + t2
+    fixed::down(i64::from(t - h.t1 - h.t2), 2) as i32
+}
+
+// The compare of a phase whose turn is k.
+#[tactic(auto, unfolding(crate::specs::Modulation::compare_at))]
+fn compare(k: Turn, t: i32, h: Times) -> i32
+    requires { Period t × Room t h }
+    ensures { result ≡ compare_at k t h.t1 h.t2 }
+{
+    let first = first_compare(t, h);
+    match k {
+        First => first,
+        Second => first + h.t1,
+        Third => first + h.t1 + h.t2,
     }
 }
 
+#[tactic(auto, unfolding(crate::specs::Modulation::placed))]
 fn place(t: i32, r: Sector, h: Times) -> Pulses
     requires { Period t × Room t h }
     ensures { result ≡ placed t r h }
 {
     Pulses {
-        a: compare(r.a, t, h.t1, h.t2),
-        b: compare(r.b, t, h.t1, h.t2),
-        c: compare(r.c, t, h.t1, h.t2),
+        a: compare(r.a, t, h),
+        b: compare(r.b, t, h),
+        c: compare(r.c, t, h),
         clipped: h.clipped,
     }
 }

@@ -7,7 +7,7 @@ use Rattle.fixed.specs.Fixed.{Between}
 use Rattle.fixed.proofs.Parts.{P, N, order, parts-+, parts--}
 use Rattle.fixed.proofs.Ring.{<-≤, <-or-≤}
 use Rattle.fixed.proofs.Between.{between_size}
-use Rattle.fixed.proofs.Size.{abs_parts}
+use Rattle.fixed.proofs.Size.{abs_parts, abs-+, abs--}
 use Rattle.fixed.proofs.HeldLaws.{held_cases}
 use Rattle.shaft.specs.Shaft.{ramped_to, ramped}
 
@@ -83,3 +83,10 @@ ramp_between reference target r =
 -- so it keeps the range of both
 pub ramp_size : (b : ℕ) (reference target : ℤ) (r : ℕ) → nat_abs reference ≤ b → nat_abs target ≤ b → nat_abs (ramped_to reference target (pos r)) ≤ b
 ramp_size b reference target r h k = between_size b (ramp_between reference target r) h k
+
+-- a move from a small number to a small number is small, also by an r below zero, which the code does not refuse
+pub ramp_small : (reference target r : ℤ) → nat_abs reference ≤ 8191 → nat_abs target ≤ 8191 → nat_abs r ≤ 8191
+    → nat_abs (ramped_to reference target r) ≤ 16382
+ramp_small reference target r h k l =
+    ramp_cases (λ n. nat_abs n ≤ 16382) reference target r (λ a. omega (arith, h, l, abs-- reference r))
+    (λ a. omega (arith, h, l, abs-+ reference r)) (λ a b. omega (arith, k))

@@ -3,7 +3,6 @@
 
 ghost use Rattle.std.specs.Prelude.{◌≡◌, ◌≤◌, pos, unsigned_abs};
 ghost use Rattle.shaft.specs.Shaft.{
-  signed16,
   movement as movement_of,
   moved as moved_of,
   counted as counted_of,
@@ -11,8 +10,8 @@ ghost use Rattle.shaft.specs.Shaft.{
   speed_of,
   measured as measured_of,
   ramped_to,
-  size_of,
   weakened as weakened_of,
+  farthest,
   fastest,
   unmoved as unmoved_of,
   shaft_ok,
@@ -32,7 +31,7 @@ const BACKWARDS: i32 = -FASTEST;
 
 // What is known of the shaft: the last count and whether there was one, the movements and steps of the window, the speed.
 #[repr(C)]
-#[derive(Clone, Copy)]
+#[derive(Clone, Copy, Default)]
 pub struct Shaft {
     pub count: i32,
     pub seen: bool,
@@ -42,52 +41,51 @@ pub struct Shaft {
 }
 
 // A count that has come round the counter's end is a movement the other way.
-fn signed(m: u16) -> i32
-    ensures { result ≡ signed16 (pos m) }
-{
-    if m < 32768 {
-        m as i32
-    } else {
-        (m as i32) - 65536
-    }
-}
-
+#[tactic(auto, using(crate::proofs::Counts::turned))]
 fn movement(count: i32, previous: i32) -> i32
     requires { Count count × Count previous }
-    ensures { result ≡ movement_of count previous }
+    ensures value { result ≡ movement_of count previous }
+    ensures size { unsigned_abs result ≤ farthest }
 {
-    signed(std::num::wrapping_sub_u16(count as u16, previous as u16))
+    let turned = (count as u16).wrapping_sub(previous as u16);
+    i32::from(turned.cast_signed())
 }
 
 // The movement of a step; a drive that has seen no count yet has nothing to take it from.
+#[tactic(auto, unfolding(crate::specs::Shaft::moved))]
 fn moved(s: Shaft, count: i32) -> i32
     requires { ShaftSized s × Count count }
-    ensures { result ≡ moved_of s count }
+    ensures value { result ≡ moved_of s count }
+    ensures size { unsigned_abs result ≤ farthest }
 {
     if s.seen { movement(count, s.count) } else { 0 }
 }
 
 // Rule 1.
+#[tactic(auto, unfolding(crate::specs::Shaft::counted))]
 pub fn counted(s: Shaft, count: i32) -> Shaft
     requires { ShaftSized s × Count count }
     ensures { result ≡ counted_of s count }
 {
     let m = moved(s, count);
-    let mut n = s;
-    n.count = count;
-    n.seen = true;
-    n.sum = s.sum + m;
-    n.steps = s.steps + 1;
-    n
+    Shaft {
+        count,
+        seen: true,
+        sum: s.sum + m,
+        steps: s.steps + 1,
+        ..s
+    }
 }
 
 // Whether the step to come is a 30th.
+#[tactic(auto, unfolding(crate::specs::Shaft::thirtieth))]
 pub fn thirtieth(s: Shaft) -> bool
     ensures { result ≡ is_thirtieth s }
 {
-    fixed::within(LAST_STEP, LAST_STEP, s.steps)
+    s.steps == LAST_STEP
 }
 
+#[tactic(auto, unfolding(crate::specs::Shaft::speed_of))]
 fn speed_of(sum: i32, kn: i32) -> i32
     ensures { result ≡ speed_of sum kn }
 {
@@ -95,40 +93,37 @@ fn speed_of(sum: i32, kn: i32) -> i32
 }
 
 // The speed of the window, which restarts.
+#[tactic(auto, unfolding(crate::specs::Shaft::measured))]
 pub fn measured(s: Shaft, kn: i32) -> Shaft
     ensures { result ≡ measured_of s kn }
 {
     let speed = speed_of(s.sum, kn);
-    let mut n = s;
-    n.sum = 0;
-    n.steps = 0;
-    n.speed = speed;
-    n
+    Shaft {
+        sum: 0,
+        steps: 0,
+        speed,
+        ..s
+    }
 }
 
 // The reference after one move towards the target.
+#[tactic(auto, using(crate::proofs::Ramp::ramp_small), unfolding(crate::specs::Shaft::ramped_to))]
 pub fn ramped_to(reference: i32, target: i32, r: i32) -> i32
     requires { (unsigned_abs reference ≤ 8191) × (unsigned_abs target ≤ 8191) × (unsigned_abs r ≤ 8191) }
     ensures { result ≡ ramped_to reference target r }
 {
-    let at = reference as i64;
-    let by = r as i64;
-    fixed::hold(target as i64, at - by, at + by) as i32
-}
-
-fn size(n: i32) -> i32
-    requires { unsigned_abs n ≤ fastest }
-    ensures { result ≡ size_of n }
-{
-    if n < 0 { -n } else { n }
+    let at = i64::from(reference);
+    let by = i64::from(r);
+    fixed::hold(i64::from(target), at - by, at + by) as i32
 }
 
 // The flux reference: above speed 1.0 it falls as the speed rises, so that the voltage suffices.
+#[tactic(auto, unfolding(crate::specs::Shaft::weakened, crate::specs::Shaft::size_of))]
 pub fn weakened(f: i32, n: i32) -> i32
     requires { (unsigned_abs f ≤ 8191) × (unsigned_abs n ≤ fastest) }
     ensures { result ≡ weakened_of f n }
 {
-    let m = size(n);
+    let m = n.abs();
     let slow = m <= 4096;
     if slow {
         f
@@ -141,16 +136,11 @@ pub fn weakened(f: i32, n: i32) -> i32
 pub fn unmoved() -> Shaft
     ensures { result ≡ unmoved_of }
 {
-    Shaft {
-        count: 0,
-        seen: false,
-        sum: 0,
-        steps: 0,
-        speed: 0,
-    }
+    Shaft::default()
 }
 
 // Whether the words of any shaft are in range.
+#[tactic(auto, unfolding(crate::specs::Shaft::shaft_ok, fixed::specs::Fixed::inside))]
 pub fn shaft_ok(s: Shaft) -> bool
     ensures { result ≡ shaft_ok s }
 {

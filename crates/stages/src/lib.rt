@@ -2,6 +2,7 @@
 #![tactic(auto)]
 
 ghost use Rattle.std.specs.Prelude.{◌≡◌, true, ◌≤◌, nat_abs, ◌-ℤ◌};
+ghost use Rattle.sine.specs.Sine.{sine_at, cosine_at, Angle};
 ghost use Rattle.regulator.specs.Regulator.{RegulatorSized};
 ghost use Rattle.shaft.specs.Shaft.{fastest, Count};
 ghost use Rattle.drive_record.specs.Record.{sound as sound_of};
@@ -28,7 +29,7 @@ ghost use Rattle.stages.specs.Step.{
 
 use drive_record::{Command, Drive, Integrals};
 use field::Field;
-use frames::{Rotor, Stator};
+use frames::{Heading, Rotor, Stator};
 use modulation::Pulses;
 use regulator::{Gains, Regulated};
 use settings::Settings;
@@ -51,6 +52,7 @@ pub struct Voltage {
 }
 
 // The speed regulator's gains, and those of the current regulators, which d and q share.
+#[tactic(auto, unfolding(crate::specs::Step::speed_gains))]
 fn speed_gains(s: Settings) -> Gains
     ensures { result ≡ speed_gains s }
 {
@@ -61,6 +63,7 @@ fn speed_gains(s: Settings) -> Gains
     }
 }
 
+#[tactic(auto, unfolding(crate::specs::Step::current_gains))]
 fn current_gains(s: Settings) -> Gains
     ensures { result ≡ current_gains s }
 {
@@ -86,24 +89,26 @@ fn ramped_by(d: Drive, n: i32) -> Command
 {
     let reference = shaft::ramped_to(d.command.reference, d.command.target, d.settings.r);
     let flux = shaft::weakened(d.settings.f, n);
-    let mut c = d.command;
-    c.reference = reference;
-    c.flux = flux;
-    c
+    Command {
+        reference,
+        flux,
+        ..d.command
+    }
 }
 
+#[tactic(auto, unfolding(crate::specs::Step::with_command, crate::specs::Step::with_torque, crate::specs::Step::with_speed))]
 fn with_command(d: Drive, s: Shaft, c: Command, u: Regulated) -> Drive
     ensures { result ≡ with_command d s c u }
 {
-    let mut command = c;
-    command.torque = u.out;
-    let mut integrals = d.integrals;
-    integrals.speed = u.x;
-    let mut n = d;
-    n.shaft = s;
-    n.command = command;
-    n.integrals = integrals;
-    n
+    Drive {
+        shaft: s,
+        command: Command { torque: u.out, ..c },
+        integrals: Integrals {
+            speed: u.x,
+            ..d.integrals
+        },
+        ..d
+    }
 }
 
 // Rule 2, on a shaft whose speed has been measured.
@@ -126,18 +131,29 @@ fn rules_1_and_2(d: Drive, count: i32) -> Drive
     if shaft::thirtieth(d.shaft) {
         commanded(d, shaft::measured(s, d.settings.kn))
     } else {
-        let mut n = d;
-        n.shaft = s;
-        n
+        Drive { shaft: s, ..d }
+    }
+}
+
+// Rule 4.
+fn heading(angle: i32) -> Heading
+    requires { Angle angle }
+    ensures sin_is { result.sin ≡ sine_at angle }
+    ensures cos_is { result.cos ≡ cosine_at angle }
+{
+    Heading {
+        sin: sine::sine(angle),
+        cos: sine::cosine(angle),
     }
 }
 
 // Rules 3 and 5.
-fn currents(ia: i32, ib: i32, sin: i32, cos: i32) -> Rotor
-    requires { Currents ia ib × SineCosineSized sin cos }
-    ensures { result ≡ currents_of ia ib sin cos }
+#[tactic(auto, unfolding(crate::specs::Step::currents))]
+fn currents(ia: i32, ib: i32, h: Heading) -> Rotor
+    requires { Currents ia ib × SineCosineSized h.sin h.cos }
+    ensures { result ≡ currents_of ia ib h.sin h.cos }
 {
-    frames::park(frames::clarke(ia, ib), sin, cos)
+    frames::park(frames::clarke(ia, ib), h)
 }
 
 // Rule 6.
@@ -157,38 +173,41 @@ fn voltage_for(d: Drive, i: Rotor) -> Voltage
     let g = current_gains(d.settings);
     let u = steered(d.integrals.d, d.command.flux, i.d, g, d.settings.v);
     let w = steered(d.integrals.q, d.command.torque, i.q, g, d.settings.v);
-    let mut integrals = d.integrals;
-    integrals.d = u.x;
-    integrals.q = w.x;
     Voltage {
         asked: Rotor { d: u.out, q: w.out },
-        integrals: integrals,
+        integrals: Integrals {
+            d: u.x,
+            q: w.x,
+            ..d.integrals
+        },
     }
 }
 
+#[tactic(auto, unfolding(crate::specs::Step::with_field))]
 fn with_field(d: Drive, f: Field, x: Integrals) -> Drive
     ensures { result ≡ with_field d f x }
 {
-    let mut n = d;
-    n.field = f;
-    n.integrals = x;
-    n
+    Drive {
+        field: f,
+        integrals: x,
+        ..d
+    }
 }
 
-// Rules 6 to 9. The sine and cosine are the old angle's, for Park and for inverse Park.
-fn rules_6_to_9(d: Drive, i: Rotor, sin: i32, cos: i32) -> Stepped
-    requires { SoundWithCurrents d i × SineCosineSized sin cos }
-    ensures { result ≡ rules_6_to_9 d i sin cos }
+// Rules 6 to 9. The heading is the old angle's, for Park and for inverse Park.
+fn rules_6_to_9(d: Drive, i: Rotor, h: Heading) -> Stepped
+    requires { SoundWithCurrents d i × SineCosineSized h.sin h.cos }
+    ensures { result ≡ rules_6_to_9 d i h.sin h.cos }
 {
     let f = field_after(d, i);
     let u = voltage_for(d, i);
-    let v = frames::inverse_park(u.asked, sin, cos);
+    let v = frames::inverse_park(u.asked, h);
     let t = d.settings.t;
     let pulses = modulation::modulate(t, v.alpha, v.beta);
     Stepped {
         drive: with_field(d, f, u.integrals),
         number: 0,
-        pulses: pulses,
+        pulses,
         voltage: v,
     }
 }
@@ -198,11 +217,9 @@ pub fn advance(d: Drive, ia: i32, ib: i32, count: i32) -> Stepped
     requires { (sound_of d ≡ true) × (sample_ok ia ib count ≡ true) }
     ensures { result ≡ advanced d ia ib count }
 {
-    let angle = d.field.angle;
-    let sin = sine::sine(angle);
-    let cos = sine::cosine(angle);
+    let h = heading(d.field.angle);
     let n = rules_1_and_2(d, count);
-    rules_6_to_9(n, currents(ia, ib, sin, cos), sin, cos)
+    rules_6_to_9(n, currents(ia, ib, h), h)
 }
 
 // The ends of samples of current, and of their sum.
@@ -211,6 +228,7 @@ const SAMPLE_END: i32 = 8191;
 const SAMPLE_BACK: i32 = -SAMPLE_END;
 
 // ia and ib are tested before their sum is formed.
+#[tactic(auto, unfolding(crate::specs::Step::sample_ok, fixed::specs::Fixed::inside))]
 pub fn sample_ok(ia: i32, ib: i32, count: i32) -> bool
     ensures { result ≡ sample_ok ia ib count }
 {

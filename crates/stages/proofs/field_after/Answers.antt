@@ -14,24 +14,22 @@ use Rattle.stages.proofs.field_after.Goals as goal
 pub returns : goal.returns
 unfolding field_after
 returns c =
-    let s = c.before.before.before.before.before.before.before.before in
-    let b = from_bits s.args.d _ s.well_formed.0.1.1 in
-    let r = rotor_told s.args.i _ s.well_formed.1.0.1.1 in
+    let b = from_bits c.args.d _ c.well_formed.0.1.1 in
+    let r = rotor_told c.args.i _ c.well_formed.1.0.1.1 in
     simp (c.followed.ensures, b.settings.kr, b.settings.kt, b.settings.kth, b.shaft.speed, r.d, r.q)
 
 pub followed-requires : goal.followed-requires
 followed-requires c =
-    let s = c.before.before.before.before.before.before.before in
-    let d = s.args.d in
-    let i = s.args.i in
-    let h = sound→ d s.requires.is_sound in
+    let d = c.args.d in
+    let i = c.args.i in
+    let h = sound→ d c.requires.is_sound in
     record {
       kr_size = bound (local w32 {x = d.settings.kr} (size.kr_size d h) tt) tt;
       kt_size = bound (local w32 {x = d.settings.kt} (size.kt_size d h) tt) tt;
       kth_size = bound (local w32 {x = d.settings.kth} (size.kth_size d h) tt) tt;
       fine_size = fine_size d.field h.field;
       angle_size = angle_size d.field h.field;
-      d_size = bound (local w32 {x = i.d} s.requires.d_size tt) tt;
-      q_size = bound (local w32 {x = i.q} s.requires.q_size tt) tt;
+      d_size = bound (local w32 {x = i.d} c.requires.d_size tt) tt;
+      q_size = bound (local w32 {x = i.q} c.requires.q_size tt) tt;
       n_size = bound (local w32 {x = d.shaft.speed} (speed_size d.shaft h.shaft) tt) tt;
     }

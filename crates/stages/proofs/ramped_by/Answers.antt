@@ -3,7 +3,7 @@
 use mathlib.Core.Path.{◌∙◌, ap₂}
 use lib.IntN.{ℤ}
 use mir.Syntax.{w32}
-use Rattle.fixed.proofs.Equal.{ap₃}
+use Rattle.fixed.proofs.Equal.{ap₃, ap₄}
 use Rattle.shaft.specs.Shaft.{ramped_to, weakened}
 use Rattle.fixed.proofs.Reading.{word, answer, sized, local, bound}
 use Rattle.stages.specs.Step.{ramped_by}
@@ -15,19 +15,16 @@ use Rattle.stages.proofs.ramped_by.Goals as goal
 pub returns : goal.returns
 unfolding ramped_by
 returns c =
-    let k = c.before in
-    let j = k.before.before in
-    let s = j.before.before.before.before in
-    let b = from_bits s.args.d _ s.well_formed.0.1.1 in
-    ap₂ (λ (r f : ℤ). record { target = s.args.d.command.target; reference = r; torque = s.args.d.command.torque; flux = f })
-    ((answer w32 j.ramped_to-reference.type_inv).is ∙ j.ramped_to-reference.ensures ∙ ap₃ ramped_to b.command.reference b.command.target b.settings.r)
-    ((answer w32 k.weakened-flux.type_inv).is ∙ k.weakened-flux.ensures ∙ ap₂ weakened b.settings.f (word s.ranges.n).is)
+    let b = from_bits c.args.d _ c.well_formed.0.1.1 in
+    ap₄ (λ (t r q f : ℤ). record { target = t; reference = r; torque = q; flux = f }) b.command.target
+    ((answer w32 c.ramped_to-reference.type_inv).is ∙ c.ramped_to-reference.ensures ∙ ap₃ ramped_to b.command.reference b.command.target b.settings.r)
+    b.command.torque
+    ((answer w32 c.weakened-flux.type_inv).is ∙ c.weakened-flux.ensures ∙ ap₂ weakened b.settings.f (word c.ranges.n).is)
 
 pub ramped_to-reference-requires : goal.ramped_to-reference-requires
 ramped_to-reference-requires c =
-    let s = c.before.before.before in
-    let d = s.args.d in
-    let h = sound→ d s.requires.0 in (
+    let d = c.args.d in
+    let h = sound→ d c.requires.0 in (
       bound (local w32 {x = d.command.reference} (size.reference_size d h) tt) tt,
       bound (local w32 {x = d.command.target} (size.target_size d h) tt) tt,
       bound (local w32 {x = d.settings.r} (size.r_size d h) tt) tt,
@@ -35,6 +32,5 @@ ramped_to-reference-requires c =
 
 pub weakened-flux-requires : goal.weakened-flux-requires
 weakened-flux-requires c =
-    let s = c.before.before.before.before.before in
-    let d = s.args.d in
-    (bound (local w32 {x = d.settings.f} (size.f_size d (sound→ d s.requires.0)) tt) tt, bound (sized s.ranges.n s.requires.1) tt)
+    let d = c.args.d in
+    (bound (local w32 {x = d.settings.f} (size.f_size d (sound→ d c.requires.0)) tt) tt, bound (sized c.ranges.n c.requires.1) tt)
