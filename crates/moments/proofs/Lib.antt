@@ -1,5 +1,2 @@
-pub mod RowFromBits
-pub mod MomentsFromBits
-pub mod Owned
 pub mod Rows
 pub mod Lasting
