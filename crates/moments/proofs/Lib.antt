@@ -1,2 +1,4 @@
+pub mod Owned
 pub mod Rows
+pub mod Calls
 pub mod Lasting

@@ -15,17 +15,9 @@ use Rattle.fixed.proofs.Choice.{by_order}
 use Rattle.ring.specs.Ring.{place_after, one_more, oldest_first, last128, place_of_row, place_at, row_place}
 use Rattle.ring.proofs.Places.{place_below, rows_most, place_again, rows_again}
 use Rattle.ring.proofs.Turned.{read_long, last128_long, stands, pushed, last128_at}
-use Rattle.stages.specs.declared.Stepped.{Stepped}
-use mir.Syntax.{w32}
-use mir.Val.{SFits, of_z, to_z}
-use mir.Facts.{to_z-of_z}
-use Rattle.drive.specs.Calls.{cleared}
-use Rattle.drive.specs.declared.Answered.{Answered}
-use Rattle.drive_record.specs.declared.Drive.{Drive}
-use Rattle.moments.specs.declared.Emptied.{Emptied}
 use Rattle.moments.specs.declared.Row.{Row}
 use Rattle.moments.specs.declared.Moments.{Moments}
-use Rattle.moments.specs.Moments.{none, place_of, real_rows, put, kept, row_of, emptied, emptied_by, row_at, no_row, moment_at, row_in, found_of}
+use Rattle.moments.specs.Moments.{none, place_of, real_rows, put, row_at, no_row, moment_at, row_in, found_of}
 use Rattle.moments.specs.Recordings.{read_from, read_all, Rings}
 
 -- ════ where a row stands
@@ -153,18 +145,3 @@ unfolding none
 none_rings =
     let z = length-replicate 128 (pos 0) in
     record { ia = z; ib = z; speed = z; a = z; b = z; c = z }
-
--- ════ the record after a call, as the code finds it: words that are passed are read back from their bits
-pub kept_accepted : (m n : Moments) (r : Row) (ia ib : ℤ) (s : Stepped) → SFits w32 ia → SFits w32 ib → SFits w32 s.number → of_z w32 s.number ≡ 0 →
-    r ≡ row_of (to_z w32 (of_z w32 ia)) (to_z w32 (of_z w32 ib)) s → n ≡ put m r → n ≡ kept m ia ib s
-unfolding kept
-kept_accepted m n r ia ib s f g k e row after = grind (arith, to_z-of_z)
-
-pub kept_refused : (m : Moments) (ia ib : ℤ) (s : Stepped) → SFits w32 s.number → (of_z w32 s.number ≡ 0 → ⊥) → m ≡ kept m ia ib s
-unfolding kept
-kept_refused m ia ib s f e = grind arith
-
-pub emptied_parts : (d : Drive) (m n : Moments) (a : Answered) → a ≡ cleared d → SFits w32 a.number → n ≡ emptied_by m (to_z w32 (of_z w32 a.number)) →
-    ◌≡◌ {A = Emptied} (record { answer = a; moments = n }) (emptied d m)
-unfolding emptied
-emptied_parts d m n a e f h = rw (h, to_z-of_z f, e) refl

@@ -32,8 +32,8 @@ pub struct Row {
     pub c: i32,
 }
 
-// A ring for each quantity, the place of the next row and the count of real rows. Six arrays of words and not one of rows: so C has the record
-// (include/mirgalhet.h, `mirgalhet_moments`).
+// A ring for each quantity, the place of the next row and the count of real rows. Six rings of words and not one of rows: the C interface,
+// include/mirgalhet.h `mirgalhet_moments`.
 #[repr(C)]
 #[derive(Clone, Copy)]
 pub struct Moments {
@@ -161,15 +161,14 @@ fn row_in(m: &Moments, at: usize) -> Row
     }
 }
 
-// The row i of the real rows, oldest first; 19 and zeros past them. One row is read, wherever the record lies.
-#[tactic(auto, using(crate::proofs::Rows::moment_stands))]
+// The row i of the real rows, oldest first; 19 and zeros past them. Of the record one row is read, where it lies.
 pub fn found_at(m: &Moments, i: i32) -> Found
     ensures { result ≡ moment_at m.now i }
 {
     Found::from(ring::row_place(m.next, m.real, i).map(|at| row_in(m, at)))
 }
 
-// The same of a record by value.
+// The same of a record by value, as promises/specs/Settled `RowSettled` has the call.
 pub fn moment(m: Moments, i: i32) -> Found
     ensures { result ≡ moment_at m i }
 {
@@ -192,7 +191,7 @@ pub fn row_of(ia: i32, ib: i32, s: Stepped) -> Row
 }
 
 // The record after a step that answered s, in place. A refused step adds no row.
-#[tactic(auto, using(crate::proofs::Rows::kept_accepted, crate::proofs::Rows::kept_refused))]
+#[tactic(auto, using(crate::proofs::Calls::kept_accepted, crate::proofs::Calls::kept_refused))]
 pub fn keep(m: &mut Moments, ia: i32, ib: i32, s: Stepped)
     ensures { m.new ≡ kept m.old ia ib s }
 {
@@ -221,7 +220,7 @@ pub fn emptied_by(m: Moments, number: i32) -> Moments
 }
 
 // After a trip: a fresh drive of the same settings, and an empty record.
-#[tactic(auto, using(crate::proofs::Rows::emptied_parts))]
+#[tactic(auto, using(crate::proofs::Calls::emptied_parts))]
 pub fn recorded_clear(d: Drive, m: Moments) -> Emptied
     ensures { result ≡ emptied d m }
 {
