@@ -211,12 +211,14 @@ pub fn recorded_step(d: Drive, m: Moments, ia: i32, ib: i32, count: i32) -> Reco
     Recorded { step, moments }
 }
 
-// The record after a clear or a start that gave this number.
+// The record after a clear or a start that gave this number, in place. A refused call leaves it as it is.
 #[tactic(auto, unfolding(crate::specs::Moments::emptied_by))]
-pub fn emptied_by(m: Moments, number: i32) -> Moments
-    ensures { result ≡ emptied_by m number }
+pub fn empty_if_accepted(m: &mut Moments, number: i32)
+    ensures { m.new ≡ emptied_by m.old number }
 {
-    if number == 0 { empty() } else { m }
+    if number == 0 {
+        *m = empty();
+    }
 }
 
 // After a trip: a fresh drive of the same settings, and an empty record.
@@ -225,8 +227,7 @@ pub fn recorded_clear(d: Drive, m: Moments) -> Emptied
     ensures { result ≡ emptied d m }
 {
     let answer = drive::clear(d);
-    Emptied {
-        answer,
-        moments: emptied_by(m, answer.number),
-    }
+    let mut moments = m;
+    empty_if_accepted(&mut moments, answer.number);
+    Emptied { answer, moments }
 }

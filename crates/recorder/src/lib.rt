@@ -30,15 +30,14 @@ pub fn mirgalhet_recorded_step(
     Output::from(s)
 }
 
-// After a trip: the drive record becomes the fresh drive of its settings, and the record beside it is emptied. It is copied, since all of it is
-// written; no interrupt waits for it.
+// After a trip: the drive record becomes the fresh drive of its settings, and the record beside it is emptied.
 pub fn mirgalhet_recorded_clear(d: &mut Drive, m: &mut Moments) -> i32
     ensures { (result ≡ (cleared d.old).number)
         × (d.new ≡ (cleared d.old).drive)
         × (m.new ≡ emptied_by m.old (cleared d.old).number) }
 {
     let number = interrupt::mirgalhet_clear(d);
-    *m = moments::emptied_by(*m, number);
+    moments::empty_if_accepted(m, number);
     number
 }
 
@@ -49,7 +48,7 @@ pub fn mirgalhet_recorded_start(d: &mut Drive, m: &mut Moments, settings: Settin
         × (m.new ≡ emptied_by m.old (made_number (made settings))) }
 {
     let number = interrupt::mirgalhet_start(d, settings);
-    *m = moments::emptied_by(*m, number);
+    moments::empty_if_accepted(m, number);
     number
 }
 
