@@ -6,9 +6,8 @@
 ghost use Rattle.std.specs.Prelude.{◌≡◌};
 ghost use Rattle.field.specs.Field.{flux_of};
 ghost use Rattle.drive.specs.Calls.{made, made_number, stepped, targeted, cleared};
-ghost use Rattle.interrupt.specs.Interrupt.{output_of, drive_or, started as started_of};
+ghost use Rattle.interrupt.specs.Interrupt.{output_of, drive_or};
 
-use drive::{Answered, Made};
 use drive_record::Drive;
 use settings::Settings;
 use stages::Stepped;
@@ -27,53 +26,21 @@ pub struct Output {
     pub beta: i32,
 }
 
-fn stepped_drive(s: Stepped) -> Drive
-    ensures { result ≡ s.drive }
-{
-    s.drive
-}
+impl From<Stepped> for Output {
+    ghost use Rattle.interrupt.specs.Interrupt.{output_of};
 
-pub fn output_of(s: Stepped) -> Output
-    ensures { result ≡ output_of s }
-{
-    Output {
-        a: s.pulses.a,
-        b: s.pulses.b,
-        c: s.pulses.c,
-        number: s.number,
-        clipped: s.pulses.clipped,
-        alpha: s.voltage.alpha,
-        beta: s.voltage.beta,
-    }
-}
+    ghost from_gives = { λ s output. output ≡ output_of s };
 
-pub fn answered_drive(a: Answered) -> Drive
-    ensures { result ≡ a.drive }
-{
-    a.drive
-}
-
-pub fn answered_number(a: Answered) -> i32
-    ensures { result ≡ a.number }
-{
-    a.number
-}
-
-// A fresh drive with these settings, or the drive as it is and the number that refuses them.
-pub fn started(d: Drive, s: Settings) -> Answered
-    ensures { result ≡ started_of d s }
-{
-    let m = drive::make(s);
-    let Made::Ready(fresh) = m else {
-        let number = drive::number_of(m);
-        return Answered {
-            drive: d,
-            number: number,
-        };
-    };
-    Answered {
-        drive: fresh,
-        number: 0,
+    fn from(s: Stepped) -> Output {
+        Output {
+            a: s.pulses.a,
+            b: s.pulses.b,
+            c: s.pulses.c,
+            number: s.number,
+            clipped: s.pulses.clipped,
+            alpha: s.voltage.alpha,
+            beta: s.voltage.beta,
+        }
     }
 }
 
@@ -82,8 +49,8 @@ pub fn mirgalhet_step(d: &mut Drive, ia: i32, ib: i32, count: i32) -> Output
     ensures { (result ≡ output_of (stepped d.old ia ib count)) × (d.new ≡ (stepped d.old ia ib count).drive) }
 {
     let s = drive::step(*d, ia, ib, count);
-    *d = stepped_drive(s);
-    output_of(s)
+    *d = s.drive;
+    Output::from(s)
 }
 
 // A new target for the speed reference of the record in place.
@@ -91,8 +58,8 @@ pub fn mirgalhet_target(d: &mut Drive, wanted: i32) -> i32
     ensures { (result ≡ (targeted d.old wanted).number) × (d.new ≡ (targeted d.old wanted).drive) }
 {
     let t = drive::target(*d, wanted);
-    *d = answered_drive(t);
-    answered_number(t)
+    *d = t.drive;
+    t.number
 }
 
 // After a trip: the record in place becomes the fresh drive of its settings.
@@ -100,17 +67,21 @@ pub fn mirgalhet_clear(d: &mut Drive) -> i32
     ensures { (result ≡ (cleared d.old).number) × (d.new ≡ (cleared d.old).drive) }
 {
     let c = drive::clear(*d);
-    *d = answered_drive(c);
-    answered_number(c)
+    *d = c.drive;
+    c.number
 }
 
 // A fresh drive with these settings in the place of the record; where they are refused the record stays as it was.
 pub fn mirgalhet_start(d: &mut Drive, settings: Settings) -> i32
     ensures { (result ≡ made_number (made settings)) × (d.new ≡ drive_or d.old (made settings)) }
 {
-    let a = started(*d, settings);
-    *d = answered_drive(a);
-    answered_number(a)
+    match drive::make(settings) {
+        Ok(fresh) => {
+            *d = fresh;
+            0
+        }
+        Err(why) => why.number(),
+    }
 }
 
 // The flux of a record's word `fine`, for whoever reads the record: C's own division rounds the other way below 0.

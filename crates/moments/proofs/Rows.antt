@@ -10,13 +10,14 @@ use borrow.Author.Tests.{lt-ltb, le-ltb}
 use lib.IntN.{ℤ, pos, negsuc}
 use lib.ListN.{length, get_or, set, length-append, length-set, length-map, length-replicate, get_or-map}
 use lib.Seq.{ext_get_or}
+use Rattle.std.specs.Option.{option_map}
 use Rattle.fixed.proofs.Choice.{by_order}
-use Rattle.ring.specs.Ring.{place_after, one_more, oldest_first, last128, place_of_row, no_place, place_at, row_place}
+use Rattle.ring.specs.Ring.{place_after, one_more, oldest_first, last128, place_of_row, place_at, row_place}
 use Rattle.ring.proofs.Places.{place_below, rows_most, place_again, rows_again}
 use Rattle.ring.proofs.Turned.{read_long, last128_long, stands, pushed, last128_at}
 use Rattle.moments.specs.declared.Row.{Row}
 use Rattle.moments.specs.declared.Moments.{Moments}
-use Rattle.moments.specs.Moments.{none, place_of, real_rows, put, row_at, no_row, past, moment_at, row_in, found_of}
+use Rattle.moments.specs.Moments.{none, place_of, real_rows, put, row_at, no_row, moment_at, row_in, found_of}
 use Rattle.moments.specs.Recordings.{read_from, read_all, Rings}
 
 -- ════ where a row stands
@@ -36,8 +37,8 @@ module _ (m : Moments) (h : Rings m) where
       )
 
   -- what is read at any number is what the code finds
-  pub moment_stands : (i : ℤ) → moment_at m i ≡ found_of (row_place m.next m.real i).number (row_in m (row_place m.next m.real i).at)
-  unfolding moment_at row_place place_at no_place found_of past
+  pub moment_stands : (i : ℤ) → moment_at m i ≡ found_of (option_map (row_in m) (row_place m.next m.real i))
+  unfolding moment_at row_place place_at found_of
   moment_stands (pos i) = by_order i (real_rows m) (λ l. rw (lt-ltb i (real_rows m) l, row_stands i l) refl) (λ l. rw (le-ltb i (real_rows m) l) refl)
   moment_stands (negsuc i) = refl
 

@@ -1,5 +1,5 @@
 -- The record of the last moments, beside the drive record (docs/RULES.md, "The last moments"): six rings of 128 places and two counts.
-use Rattle.std.specs.Prelude.{ℕ, cond, List, ltb, ℤ, pos, negsuc, get_or, set, replicate}
+use Rattle.std.specs.Prelude.{ℕ, cond, List, ltb, ℤ, pos, negsuc, get_or, set, replicate, Option, Some, None}
 use Rattle.fixed.specs.Fixed.{equal}
 use Rattle.drive_record.specs.declared.Drive.{Drive}
 use Rattle.stages.specs.declared.Stepped.{Stepped}
@@ -106,6 +106,7 @@ row_in m at = record {
   c = get_or m.c at (pos 0);
 }
 
--- a row that was looked for: with 0 it is that row, else zeros
-unfoldable pub found_of : ℤ → Row → Found
-found_of number r = cond (equal (pos 0) number) (found (pos 0) r) (found number no_row)
+-- what was looked for: that row with 0, or where there is none 19 and zeros
+unfoldable pub found_of : Option Row → Found
+found_of (Some r) = found (pos 0) r
+found_of None = past

@@ -1,10 +1,9 @@
 -- What can have happened to a drive with its record: any calls in any order, accepted or refused; and the rows of it, with no ring.
-use Rattle.std.specs.Prelude.{ℕ, zero, suc, ◌≡◌, cond, List, [], ◌∷◌, ◌++◌, ℤ, pos, length}
+use Rattle.std.specs.Prelude.{ℕ, zero, suc, ◌≡◌, cond, List, [], ◌∷◌, ◌++◌, ℤ, pos, length, Result, Ok, Err}
 use Rattle.fixed.specs.Fixed.{equal}
+use Rattle.fixed.specs.declared.refusal.Refusal.{Refusal}
 use Rattle.settings.specs.declared.Settings.{Settings}
 use Rattle.drive_record.specs.declared.Drive.{Drive}
-use Rattle.drive.specs.declared.Made.{Made}
-use Rattle.drive.specs.declared.Made.TheVariants.{Ready, Refused}
 use Rattle.drive.specs.Calls.{made, made_number, stepped, cleared}
 use Rattle.moments.specs.declared.Row.{Row}
 use Rattle.moments.specs.declared.Moments.{Moments}
@@ -23,9 +22,9 @@ abbrev pub Both : Type 0
 Both = Drive × Moments
 
 -- the drive that was made, or the drive as it was
-abbrev pub made_or : Drive → Made → Drive
-made_or d (Ready fresh) = fresh
-made_or d (Refused number) = d
+abbrev pub made_or : Drive → Result Drive Refusal → Drive
+made_or d (Ok fresh) = fresh
+made_or d (Err why) = d
 
 unfoldable pub after : Both → Call → Both
 after s (stepping ia ib count) = ((recorded s.0 s.1 ia ib count).step.drive, (recorded s.0 s.1 ia ib count).moments)

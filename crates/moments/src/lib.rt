@@ -8,10 +8,9 @@ ghost use Rattle.moments.specs.Moments.{
   real_rows,
   put as put_of,
   row_in,
-  found_of,
   moment_at,
   row_of,
-  kept as kept_of,
+  kept,
   recorded,
   emptied_by,
   emptied,
@@ -19,6 +18,7 @@ ghost use Rattle.moments.specs.Moments.{
 
 use drive::Answered;
 use drive_record::Drive;
+use fixed::refusal::Refusal;
 use stages::Stepped;
 
 // One accepted step: its samples, the speed after it and its compares.
@@ -32,7 +32,8 @@ pub struct Row {
     pub c: i32,
 }
 
-// A ring for each quantity, the place of the next row and the count of real rows.
+// A ring for each quantity, the place of the next row and the count of real rows. Six rings of words and not one of rows: the C interface,
+// include/mirgalhet.h `mirgalhet_moments`.
 #[repr(C)]
 #[derive(Clone, Copy)]
 pub struct Moments {
@@ -59,6 +60,36 @@ pub struct Found {
     pub c: i32,
 }
 
+impl From<Option<Row>> for Found {
+    ghost use Rattle.moments.specs.Moments.{found_of};
+
+    ghost from_gives = { λ row found. found ≡ found_of row };
+
+    #[tactic(auto, unfolding(crate::specs::Moments::found_of, crate::specs::Moments::past))]
+    fn from(row: Option<Row>) -> Found {
+        match row {
+            Some(r) => Found {
+                number: 0,
+                ia: r.ia,
+                ib: r.ib,
+                speed: r.speed,
+                a: r.a,
+                b: r.b,
+                c: r.c,
+            },
+            None => Found {
+                number: Refusal::NoRow.number(),
+                ia: 0,
+                ib: 0,
+                speed: 0,
+                a: 0,
+                b: 0,
+                c: 0,
+            },
+        }
+    }
+}
+
 // What a recorded step answers: the step's answer, and the record after it.
 #[derive(Clone, Copy)]
 pub struct Recorded {
@@ -74,6 +105,7 @@ pub struct Emptied {
 }
 
 // No rows, and zeros in every place.
+#[tactic(auto, unfolding(crate::specs::Moments::none))]
 pub fn empty() -> Moments
     ensures { result ≡ none }
 {
@@ -90,28 +122,20 @@ pub fn empty() -> Moments
     }
 }
 
-// A row at the next place of each ring.
-fn put(m: Moments, r: Row) -> Moments
-    ensures { result ≡ put_of m r }
+// A row at the next place of each ring, in place.
+#[tactic(auto, unfolding(crate::specs::Moments::put, ring::specs::Ring::spot_of))]
+fn put(m: &mut Moments, r: Row)
+    ensures { m.new ≡ put_of m.old r }
 {
-    let p = ring::spot_for(m.next, m.real);
-    let at = p.at;
-    let ia = r.ia;
-    let ib = r.ib;
-    let speed = r.speed;
-    let a = r.a;
-    let b = r.b;
-    let c = r.c;
-    let mut n = m;
-    n.ia[at] = ia;
-    n.ib[at] = ib;
-    n.speed[at] = speed;
-    n.a[at] = a;
-    n.b[at] = b;
-    n.c[at] = c;
-    n.next = p.next;
-    n.real = p.real;
-    n
+    let spot = ring::spot_for(m.next, m.real);
+    m.ia[spot.at] = r.ia;
+    m.ib[spot.at] = r.ib;
+    m.speed[spot.at] = r.speed;
+    m.a[spot.at] = r.a;
+    m.b[spot.at] = r.b;
+    m.c[spot.at] = r.c;
+    m.next = spot.next;
+    m.real = spot.real;
 }
 
 // How many rows are real.
@@ -122,9 +146,10 @@ pub fn real_rows(m: Moments) -> i32
 }
 
 // What stands at a place of each ring.
-fn row_in(m: Moments, at: usize) -> Row
+#[tactic(auto, unfolding(crate::specs::Moments::row_in))]
+fn row_in(m: &Moments, at: usize) -> Row
     requires { at < 128 }
-    ensures { result ≡ row_in m at }
+    ensures { result ≡ row_in m.now at }
 {
     Row {
         ia: m.ia[at],
@@ -136,49 +161,28 @@ fn row_in(m: Moments, at: usize) -> Row
     }
 }
 
-// A row that was looked for: with 0 it is that row, else zeros.
-pub fn found_of(number: i32, r: Row) -> Found
-    ensures { result ≡ found_of number r }
+// The row i of the real rows, oldest first; 19 and zeros past them. Of the record one row is read, where it lies.
+pub fn found_at(m: &Moments, i: i32) -> Found
+    ensures { result ≡ moment_at m.now i }
 {
-    if fixed::within(0, 0, number) {
-        return Found {
-            number: 0,
-            ia: r.ia,
-            ib: r.ib,
-            speed: r.speed,
-            a: r.a,
-            b: r.b,
-            c: r.c,
-        };
-    }
-    Found {
-        number: number,
-        ia: 0,
-        ib: 0,
-        speed: 0,
-        a: 0,
-        b: 0,
-        c: 0,
-    }
+    Found::from(ring::row_place(m.next, m.real, i).map(|at| row_in(m, at)))
 }
 
-// The row i of the real rows, oldest first; 19 and zeros past them.
+// The same of a record by value, as promises/specs/Settled `RowSettled` has the call.
 pub fn moment(m: Moments, i: i32) -> Found
     ensures { result ≡ moment_at m i }
 {
-    let p = ring::row_place(m.next, m.real, i);
-    let at = p.at;
-    let r = row_in(m, at);
-    found_of(p.number, r)
+    found_at(&m, i)
 }
 
 // The row of a step that answered s.
+#[tactic(auto, unfolding(crate::specs::Moments::row_of))]
 pub fn row_of(ia: i32, ib: i32, s: Stepped) -> Row
     ensures { result ≡ row_of ia ib s }
 {
     Row {
-        ia: ia,
-        ib: ib,
+        ia,
+        ib,
         speed: s.drive.shaft.speed,
         a: s.pulses.a,
         b: s.pulses.b,
@@ -186,48 +190,44 @@ pub fn row_of(ia: i32, ib: i32, s: Stepped) -> Row
     }
 }
 
-// The record after it. A refused step adds no row.
-fn kept(m: Moments, ia: i32, ib: i32, s: Stepped) -> Moments
-    ensures { result ≡ kept_of m ia ib s }
+// The record after a step that answered s, in place. A refused step adds no row.
+#[tactic(auto, using(crate::proofs::Calls::kept_accepted, crate::proofs::Calls::kept_refused))]
+pub fn keep(m: &mut Moments, ia: i32, ib: i32, s: Stepped)
+    ensures { m.new ≡ kept m.old ia ib s }
 {
-    if fixed::within(0, 0, s.number) {
-        put(m, row_of(ia, ib, s))
-    } else {
-        m
+    if s.number == 0 {
+        put(m, row_of(ia, ib, s));
     }
 }
 
 // One step from any drive and any sample, which answers as ever, and the record after it.
+#[tactic(auto, unfolding(crate::specs::Moments::recorded))]
 pub fn recorded_step(d: Drive, m: Moments, ia: i32, ib: i32, count: i32) -> Recorded
     ensures { result ≡ recorded d m ia ib count }
 {
-    let s = drive::step(d, ia, ib, count);
-    let n = kept(m, ia, ib, s);
-    Recorded {
-        step: s,
-        moments: n,
-    }
+    let step = drive::step(d, ia, ib, count);
+    let mut moments = m;
+    keep(&mut moments, ia, ib, step);
+    Recorded { step, moments }
 }
 
-// The record after a clear or a start that gave this number.
-pub fn emptied_by(m: Moments, number: i32) -> Moments
-    ensures { result ≡ emptied_by m number }
+// The record after a clear or a start that gave this number, in place. A refused call leaves it as it is.
+#[tactic(auto, unfolding(crate::specs::Moments::emptied_by))]
+pub fn empty_if_accepted(m: &mut Moments, number: i32)
+    ensures { m.new ≡ emptied_by m.old number }
 {
-    if fixed::within(0, 0, number) {
-        empty()
-    } else {
-        m
+    if number == 0 {
+        *m = empty();
     }
 }
 
 // After a trip: a fresh drive of the same settings, and an empty record.
+#[tactic(auto, using(crate::proofs::Calls::emptied_parts))]
 pub fn recorded_clear(d: Drive, m: Moments) -> Emptied
     ensures { result ≡ emptied d m }
 {
-    let a = drive::clear(d);
-    let n = emptied_by(m, a.number);
-    Emptied {
-        answer: a,
-        moments: n,
-    }
+    let answer = drive::clear(d);
+    let mut moments = m;
+    empty_if_accepted(&mut moments, answer.number);
+    Emptied { answer, moments }
 }

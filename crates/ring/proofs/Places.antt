@@ -6,84 +6,68 @@ use mathlib.Core.Bool.{true}
 use Prim.Native.Nat.{ℕ, ◌+◌, ◌-◌, ◌*◌, ◌≤◌, ◌<◌}
 use native.Mathlib.Omega.{arith}
 use borrow.Author.Tests.{ltb-true, ltb-false}
-use lib.Dec.{T, ltb, ltb→lt}
-use lib.IntN.{ℤ, pos, negsuc, nat_abs, neg_ℤ, ◌+ℤ◌, ◌-ℤ◌, ◌*ℤ◌}
-use lib.Signed.{◌≤ℤ◌, ◌<ℤ◌}
+use lib.Dec.{T, ltb}
+use lib.IntN.{ℤ, pos, nat_abs, neg_ℤ, ◌+ℤ◌, ◌-ℤ◌, ◌*ℤ◌}
+use lib.Signed.{non_neg, yes_non_neg}
 use Rattle.fixed.specs.Fixed.{within, modulo}
 use Rattle.fixed.proofs.Parts.{diffs, order}
 use Rattle.fixed.proofs.DownLaws.{modulo_unique}
 use Rattle.fixed.proofs.Choice.{choose}
 use Rattle.fixed.proofs.Ranges.{two}
 use Rattle.fixed.proofs.HeldLaws.{and_both, within_lo, within_yes, within_size}
-use Rattle.ring.specs.declared.Counts.{Counts}
-use Rattle.ring.specs.declared.Place.{Place}
-use Rattle.ring.specs.Ring.{in_range, place_in, rows_in, counts_in, place_after, one_more, spot_of, place_of_row, no_place, place_at, row_place}
+use Rattle.ring.specs.Ring.{in_range, place_in, rows_in, place_after, one_more, place_of_row}
 
 -- ════ the counts
--- what the test of the counts says of each
-pub record InRange (next real : ℤ) : Type 0 where
-  pub next_up : pos 0 ≤ℤ next
-  pub real_up : pos 0 ≤ℤ real
-  pub next_low : nat_abs next < 128
-  pub real_low : nat_abs real ≤ 128
-
-pub in-range→ : (next real : ℤ) → in_range next real ≡ true → InRange next real
+-- what the test says of each: the number that is cast is not negative, and a place or a count of the ring
+pub next_read : (next real : ℤ) → in_range next real ≡ true → T (non_neg next) × (nat_abs next < 128)
 unfolding in_range
-in-range→ next real e =
-    let h = two (within (pos 0) (pos 127) next) (within (pos 0) (pos 128) real) e in
-    record {
-      next_up = within_lo (pos 0) (pos 127) next h.0;
-      real_up = within_lo (pos 0) (pos 128) real h.1;
-      next_low = omega (arith, within_size 0 127 next h.0);
-      real_low = within_size 0 128 real h.1;
-    }
+next_read next real e =
+    let h = (two (within (pos 0) (pos 127) next) (within (pos 0) (pos 128) real) e).0 in
+    (yes_non_neg (within_lo (pos 0) (pos 127) next h), omega (arith, within_size 0 127 next h))
+
+pub real_read : (next real : ℤ) → in_range next real ≡ true → T (non_neg real) × (nat_abs real ≤ 128)
+unfolding in_range
+real_read next real e =
+    let h = (two (within (pos 0) (pos 127) next) (within (pos 0) (pos 128) real) e).1 in
+    (yes_non_neg (within_lo (pos 0) (pos 128) real h), within_size 0 128 real h)
+
+pub ruleset counted = (next_read, real_read)
 
 pub place_below : (next real : ℤ) → place_in next real < 128
 unfolding place_in
 place_below next real =
-    choose (λ (n : ℕ). n < 128) (in_range next real) (nat_abs next) 0 (λ e. (in-range→ next real e).next_low) (λ e. omega arith)
+    choose (λ (n : ℕ). n < 128) (in_range next real) (nat_abs next) 0 (λ e. (next_read next real e).1) (λ e. omega arith)
 
 pub rows_most : (next real : ℤ) → rows_in next real ≤ 128
 unfolding rows_in
 rows_most next real =
-    choose (λ (n : ℕ). n ≤ 128) (in_range next real) (nat_abs real) 0 (λ e. (in-range→ next real e).real_low) (λ e. omega arith)
-
--- as the code reads them
-pub counts_fit : (next real : ℤ) {c : Counts} → c ≡ counts_in next real → (c.place < 128) × (c.rows ≤ 128)
-unfolding counts_in
-counts_fit next real e = rw e (place_below next real, rows_most next real)
+    choose (λ (n : ℕ). n ≤ 128) (in_range next real) (nat_abs real) 0 (λ e. (real_read next real e).1) (λ e. omega arith)
 
 -- ════ the counts after a row
-pub after_below : (at : ℕ) → place_after at < 128
+after_below : (at : ℕ) → place_after at < 128
 unfolding place_after
 after_below at = choose (λ (n : ℕ). n < 128) (ltb at 127) (at + 1) 0 (λ e. omega (arith, ltb-true at 127 e)) (λ e. omega arith)
 
-pub more_most : (real : ℕ) → one_more real ≤ 128
+more_most : (real : ℕ) → one_more real ≤ 128
 unfolding one_more
 more_most real = choose (λ (n : ℕ). n ≤ 128) (ltb real 128) (real + 1) 128 (λ e. omega (arith, ltb-true real 128 e)) (λ e. omega arith)
 
-in-range← : (at real : ℕ) → at < 128 → real ≤ 128 → in_range (pos at) (pos real) ≡ true
+in_range_again : (at real : ℕ) → at < 128 → real ≤ 128 → in_range (pos at) (pos real) ≡ true
 unfolding in_range
-in-range← at real h k =
+in_range_again at real h k =
     and_both (within_yes (pos 0) (pos 127) (pos at) (omega (arith, order)) (omega (arith, order)))
     (within_yes (pos 0) (pos 128) (pos real) (omega (arith, order)) (omega (arith, order)))
 
 -- they are read as they stand
 pub place_again : (at real : ℕ) → place_in (pos (place_after at)) (pos (one_more real)) ≡ place_after at
 unfolding place_in
-place_again at real = rw (in-range← (place_after at) (one_more real) (after_below at) (more_most real)) refl
+place_again at real = rw (in_range_again (place_after at) (one_more real) (after_below at) (more_most real)) refl
 
 pub rows_again : (at real : ℕ) → rows_in (pos (place_after at)) (pos (one_more real)) ≡ one_more real
 unfolding rows_in
-rows_again at real = rw (in-range← (place_after at) (one_more real) (after_below at) (more_most real)) refl
+rows_again at real = rw (in_range_again (place_after at) (one_more real) (after_below at) (more_most real)) refl
 
 -- ════ where the code looks
-pub place_of_row_below : (at real i : ℕ) → at < 128 → real ≤ 128 → i < real → place_of_row at real i < 128
-unfolding place_of_row
-place_of_row_below at real i a r l =
-    let on = at + (128 - real) + i in
-    choose (λ (n : ℕ). n < 128) (ltb on 128) on (on - 128) (λ e. ltb-true on 128 e) (λ e. omega arith)
-
 -- the place is that of the rules, (next − real + i) modulo 128, though no remainder is formed
 pub place_modulo : (at real i : ℕ) → at < 128 → real ≤ 128 → i < real → pos (place_of_row at real i) ≡ modulo (pos at -ℤ pos real +ℤ pos i) (pos 128)
 unfolding place_of_row
@@ -100,30 +84,3 @@ place_modulo at real i a r l =
   where
     turns : (at real i r t : ℕ) → r + real ≡ 128 * t + (at + i) → pos at -ℤ pos real +ℤ pos i ≡ pos 128 *ℤ neg_ℤ (pos t) +ℤ pos r
     turns at real i r t e = simp diffs (omega arith)
-
-pub spot_inside : (next real : ℤ) → (spot_of next real).at < 128
-unfolding spot_of
-spot_inside next real = place_below next real
-
-pub place_inside : (next real i : ℤ) → (row_place next real i).at < 128
-unfolding row_place place_at no_place
-place_inside next real (pos i) =
-    choose (λ (p : Place). p.at < 128) (ltb i (rows_in next real))
-    (record { number = pos 0; at = place_of_row (place_in next real) (rows_in next real) i }) no_place
-    (λ e. place_of_row_below (place_in next real) (rows_in next real) i (place_below next real) (rows_most next real) (ltb-true i (rows_in next real) e))
-    (λ e. omega arith)
-place_inside next real (negsuc i) = omega arith
-
--- no row comes before the oldest
-no_less : (n : ℕ) → T (ltb n 0) → ⊥
-no_less n t = let h : n < 0 = ltb→lt n 0 t in omega arith
-
-pub before_oldest : (next real i : ℤ) → i <ℤ pos 0 → row_place next real i ≡ no_place
-unfolding row_place
-before_oldest next real (pos i) h = absurd (no_less i h.lt)
-before_oldest next real (negsuc i) h = refl
-
-pub from_oldest : (next real i : ℤ) → pos 0 ≤ℤ i → row_place next real i ≡ place_at next real (nat_abs i)
-unfolding row_place
-from_oldest next real (pos i) h = refl
-from_oldest next real (negsuc i) h = absurd h.le

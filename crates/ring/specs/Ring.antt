@@ -1,9 +1,8 @@
 -- The places of a ring of 128, by its two counts (docs/RULES.md, "The last moments"): where a row goes, what is read of a ring, and where it stands.
-use Rattle.std.specs.Prelude.{ℕ, ◌+◌, ◌-◌, Bool, cond, ◌&&◌, List, ◌++◌, ltb, ℤ, pos, negsuc, nat_abs, length, take, drop}
+use Rattle.std.specs.Prelude.{ℕ, ◌+◌, ◌-◌, Bool, cond, ◌&&◌, List, ◌++◌, ltb, ℤ, pos, negsuc, nat_abs, length, take, drop, Option, Some, None}
 use Rattle.fixed.specs.Fixed.{within}
 use Rattle.ring.specs.declared.Counts.{Counts}
 use Rattle.ring.specs.declared.Spot.{Spot}
-use Rattle.ring.specs.declared.Place.{Place}
 
 -- ════ the two counts
 -- the place of the next row is 0..127, the real rows are 0..128
@@ -50,14 +49,10 @@ last128 rs = drop (length rs - 128) rs
 unfoldable pub place_of_row : ℕ → ℕ → ℕ → ℕ
 place_of_row at real i = cond (ltb (at + (128 - real) + i) 128) (at + (128 - real) + i) (at + (128 - real) + i - 128)
 
--- 0 and that place; 19 where there is no such row
-unfoldable pub no_place : Place
-no_place = record { number = pos 19; at = 0 }
+-- that place; none where there is no such row
+unfoldable pub place_at : ℤ → ℤ → ℕ → Option ℕ
+place_at next real i = cond (ltb i (rows_in next real)) (Some (place_of_row (place_in next real) (rows_in next real) i)) None
 
-unfoldable pub place_at : ℤ → ℤ → ℕ → Place
-place_at next real i =
-    cond (ltb i (rows_in next real)) (record { number = pos 0; at = place_of_row (place_in next real) (rows_in next real) i }) no_place
-
-unfoldable pub row_place : ℤ → ℤ → ℤ → Place
+unfoldable pub row_place : ℤ → ℤ → ℤ → Option ℕ
 row_place next real (pos i) = place_at next real i
-row_place next real (negsuc i) = no_place
+row_place next real (negsuc i) = None

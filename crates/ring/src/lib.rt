@@ -2,7 +2,7 @@
 // range are those of an empty ring. The places are numbers from 0 to 127, and no remainder is formed.
 #![tactic(auto)]
 
-ghost use Rattle.std.specs.Prelude.{◌≡◌, ◌<◌, ◌≤◌, pos};
+ghost use Rattle.std.specs.Prelude.{◌≡◌, ◌<◌, ◌≤◌, pos, IfSome};
 ghost use Rattle.ring.specs.Ring.{
   in_range,
   rows_in,
@@ -11,16 +11,14 @@ ghost use Rattle.ring.specs.Ring.{
   one_more,
   spot_of,
   place_of_row,
-  no_place,
-  place_at,
   row_place,
 };
 
 // The place of the next row and the real rows, as they are read.
 #[derive(Clone, Copy)]
 pub struct Counts {
-    pub place: u32,
-    pub rows: u32,
+    pub place: usize,
+    pub rows: usize,
 }
 
 // Where a row goes, and the counts after it.
@@ -31,13 +29,7 @@ pub struct Spot {
     pub real: i32,
 }
 
-// Where a row stands: 0 and its place, or 19 where there is no such row.
-#[derive(Clone, Copy)]
-pub struct Place {
-    pub number: i32,
-    pub at: usize,
-}
-
+#[tactic(auto, unfolding(crate::specs::Ring::in_range))]
 fn in_range(next: i32, real: i32) -> bool
     ensures { result ≡ in_range next real }
 {
@@ -45,86 +37,82 @@ fn in_range(next: i32, real: i32) -> bool
 }
 
 // The two counts, as they are read: both are 0 where either is out of range.
+#[tactic(auto, using(crate::proofs::Places::counted), unfolding(crate::specs::Ring::counts_in, crate::specs::Ring::place_in, crate::specs::Ring::rows_in))]
 fn counts_in(next: i32, real: i32) -> Counts
-    ensures { result ≡ counts_in next real }
+    ensures read { result ≡ counts_in next real }
+    ensures place { result.place < 128 }
+    ensures rows { result.rows ≤ 128 }
 {
     if in_range(next, real) {
-        return Counts {
-            place: next as u32,
-            rows: real as u32,
-        };
+        Counts {
+            place: next as usize,
+            rows: real as usize,
+        }
+    } else {
+        Counts { place: 0, rows: 0 }
     }
-    Counts { place: 0, rows: 0 }
 }
 
 // How many rows are real, for a caller.
+#[tactic(auto, unfolding(crate::specs::Ring::counts_in))]
 pub fn count_in(next: i32, real: i32) -> i32
     ensures { result ≡ pos (rows_in next real) }
 {
-    let c = counts_in(next, real);
-    c.rows as i32
+    counts_in(next, real).rows as i32
 }
 
-fn place_after(at: u32) -> u32
-    ensures { result ≡ place_after at }
+#[tactic(auto, unfolding(crate::specs::Ring::place_after))]
+fn place_after(at: usize) -> usize
+    ensures place { result ≡ place_after at }
+    ensures inside { result < 128 }
 {
     if at < 127 { at + 1 } else { 0 }
 }
 
 #[tactic(auto, unfolding(crate::specs::Ring::one_more))]
-fn one_more(real: u32) -> u32
-    ensures { result ≡ one_more real }
+fn one_more(real: usize) -> usize
+    ensures rows { result ≡ one_more real }
+    ensures most { result ≤ 128 }
 {
     if real < 128 { real + 1 } else { 128 }
 }
 
 // Where the next row goes. Counts out of range are 0 before it, so that the row is then the only one.
+#[tactic(auto, unfolding(crate::specs::Ring::spot_of, crate::specs::Ring::counts_in))]
 pub fn spot_for(next: i32, real: i32) -> Spot
-    ensures { result ≡ spot_of next real }
+    ensures spot { result ≡ spot_of next real }
+    ensures inside { result.at < 128 }
 {
     let c = counts_in(next, real);
-    let after = place_after(c.place);
-    let more = one_more(c.rows);
     Spot {
-        at: c.place as usize,
-        next: after as i32,
-        real: more as i32,
+        at: c.place,
+        next: place_after(c.place) as i32,
+        real: one_more(c.rows) as i32,
     }
 }
 
 // The place of the row k of the real rows, the oldest being row 0.
-fn place_of_row(place: u32, real: u32, k: u32) -> u32
+#[tactic(auto, unfolding(crate::specs::Ring::place_of_row))]
+fn place_of_row(place: usize, real: usize, k: usize) -> usize
     requires { (place < 128) × (real ≤ 128) × (k < real) }
-    ensures { result ≡ place_of_row place real k }
+    ensures place { result ≡ place_of_row place real k }
+    ensures inside { result < 128 }
 {
     let on = place + (128 - real) + k;
     if on < 128 { on } else { on - 128 }
 }
 
-fn no_place() -> Place
-    ensures { result ≡ no_place }
+// Where the row i stands, of any number i: no row comes before the oldest, and none after the newest.
+#[tactic(auto, unfolding(crate::specs::Ring::counts_in, crate::specs::Ring::row_place, crate::specs::Ring::place_at))]
+pub fn row_place(next: i32, real: i32, i: i32) -> Option<usize>
+    ensures place { result ≡ row_place next real i }
+    ensures inside { IfSome result (λ at. at < 128) }
 {
-    Place { number: 19, at: 0 }
-}
-
-fn place_at(next: i32, real: i32, k: u32) -> Place
-    ensures { result ≡ place_at next real k }
-{
+    let k = usize::try_from(i).ok()?;
     let c = counts_in(next, real);
-    let rows = c.rows;
-    if k < rows {
-        let at = place_of_row(c.place, rows, k) as usize;
-        return Place { number: 0, at: at };
+    if k < c.rows {
+        Some(place_of_row(c.place, c.rows, k))
+    } else {
+        None
     }
-    no_place()
-}
-
-// Where the row i stands, of any number i; no row comes before the oldest.
-pub fn row_place(next: i32, real: i32, i: i32) -> Place
-    ensures { result ≡ row_place next real i }
-{
-    if i < 0 {
-        return no_place();
-    }
-    place_at(next, real, i as u32)
 }
