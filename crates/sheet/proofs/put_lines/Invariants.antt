@@ -1,12 +1,9 @@
--- `sheet::put_lines` meets its contract. The measure is how many lines are left.
+-- What stands once the first i lines are put.
 -- Assumes nothing.
-use Prim.Native.Nat.{◌-◌}
-use Rattle.settings.specs.Words.{size as line_count}
-use Rattle.sheet.proofs.Putting.{Writing}
+use Rattle.std.proofs.Common.{◌≤◌, ◌+◌, ◌*◌}
+use Rattle.writing.specs.Page.{Put}
+use Rattle.sheet.proofs.Putting.{firsts}
 use Rattle.sheet.proofs.put_lines.Given as goal
 
 abbrev pub invariant-loop-i : goal.invariant-loop-i
-invariant-loop-i l = Writing l.words l.initial.out l.at l.out l.place l.i
-
-abbrev pub decreases-loop-i : goal.decreases-loop-i
-decreases-loop-i l = line_count - l.i
+invariant-loop-i l = Put l.initial.page l.page (firsts l.words l.i) × (l.page.at ≤ l.initial.page.at + 40 * l.i)
