@@ -3,7 +3,6 @@
 use mathlib.Core.Path.{◌≡◌, refl, sym, ◌∙◌, ap}
 use mathlib.Core.Bool.{Bool, true, false, cond, not, ◌&&◌}
 use mathlib.Core.List.{List, [], ◌∷◌, ◌++◌, append_assoc, append-nil}
-use mathlib.Core.Logic.{⊎_elim}
 use Prim.Native.Nat.{ℕ, ◌+◌, ◌*◌, ◌≤◌, ◌<◌}
 use native.Mathlib.Nat.{mul-suc, mul-le-mul_left}
 use native.Mathlib.Omega.{arith}
@@ -12,10 +11,10 @@ use lib.IntN.{ℤ}
 use lib.ListN.{length}
 use Rattle.std.proofs.lemmas.List.{nil_from_length}
 use Rattle.fixed.proofs.HeldLaws.{and_left, and_right}
-use Rattle.text.specs.Automaton.{Reading, read_next, read_end}
+use Rattle.text.specs.Automaton.{Reading, read_next}
 use Rattle.writing.specs.declared.Page.{Page}
 use Rattle.writing.specs.Page.{Put, Room}
-use Rattle.fixed.proofs.Choice.{true_or_false}
+use Rattle.fixed.proofs.Choice.{by_test}
 use Rattle.writing.proofs.PageLaws.{none, then}
 use Rattle.feeding.specs.Feeding.{Part, part_of, Fed, line_due, front, is_good, end_fed, end_text, byte_fed, byte_text, fed_of, text_fed}
 use Rattle.feeding.proofs.Parts.{part_length, part_count}
@@ -43,29 +42,18 @@ good_test fits r bs {p} {q} e f = by p.ended p.reading.line.bad refl refl
         f (omega (arith, c, l))
 
 module _ {T : Type 0} (fits : List ℤ → Bool) (after : T → List ℤ → T) where
-  byte_end : (s : Fed T) (b : ℕ) → s.stopped ≡ false → eqb b 10 ≡ true → byte_fed fits after s b ≡ end_fed fits after s.kept (read_end s.reading)
-  unfolding byte_fed
-  byte_end s b h e = rw (h, e) refl
-
-  byte_on : (s : Fed T) (b : ℕ) → s.stopped ≡ false → eqb b 10 ≡ false
-      → byte_fed fits after s b ≡ record { kept = s.kept; reading = read_next s.reading b; begun = true; stopped = false }
-  unfolding byte_fed
-  byte_on s b h e = rw (h, e) refl
-
   -- what it makes of what is kept
   part_fed : T → Part → Fed T
   part_fed t p = cond p.ended (end_fed fits after t p.reading) (part_at t p)
 
   part_fed_lem : (s : Fed T) (b : ℕ) (bs : List ℕ) → s.stopped ≡ false →
       fed_of fits after s (b ∷ bs) ≡ fed_of fits after (part_fed s.kept (part_of s.reading (b ∷ bs))) (part_of s.reading (b ∷ bs)).behind
-  unfolding fed_of part_of part_fed
-  part_fed_lem s b [] h =
-      ⊎_elim (λ e. rw (byte_end s b h e, e) refl) (λ e. rw (byte_on s b h e, e) refl) (true_or_false (eqb b 10))
+  unfolding fed_of part_of part_fed byte_fed
+  part_fed_lem s b [] h = by_test (eqb b 10) (λ e. rw (h, e) refl) (λ e. rw (h, e) refl)
   part_fed_lem s b (c ∷ cs) h =
-      ⊎_elim
-      (λ e. rw (byte_end s b h e, e) refl)
-      (λ e. rw (byte_on s b h e, e) (part_fed_lem (record { kept = s.kept; reading = read_next s.reading b; begun = true; stopped = false }) c cs refl))
-      (true_or_false (eqb b 10))
+      by_test (eqb b 10)
+      (λ e. rw (h, e) refl)
+      (λ e. rw (h, e) (part_fed_lem (record { kept = s.kept; reading = read_next s.reading b; begun = true; stopped = false }) c cs refl))
 
   part_good : (t : T) (p : Part) → p.ended && is_good fits p.reading ≡ true → part_fed t p ≡ line_due (after t (front p.reading)) p.reading.numbers
   unfolding part_fed
@@ -73,11 +61,7 @@ module _ {T : Type 0} (fits : List ℤ → Bool) (after : T → List ℤ → T) 
 
   part_else : (t : T) (p : Part) → p.ended && is_good fits p.reading ≡ false → part_fed t p ≡ part_at t p
   unfolding part_fed
-  part_else t p = by p.ended refl
-    where
-      by : (e : Bool) → p.ended ≡ e → e && is_good fits p.reading ≡ false → cond e (end_fed fits after t p.reading) (part_at t p) ≡ part_at t p
-      by true e g = end_bad fits after t p.reading g ∙ rw e refl
-      by false e g = refl
+  part_else t p g = by_test p.ended (λ e. rw (e, end_bad fits after t p.reading (rw e at g)) refl) (λ e. rw e refl)
 
   -- ════ what stands once some bytes of a chunk made cur of s, and rest is left: what is left makes of cur what all makes of s
   pub record Upto (s : Fed T) (chunk : List ℕ) (cur : Fed T) (rest : List ℕ) : Type 0 where
@@ -123,14 +107,6 @@ far : (m i j : ℕ) → i < j → m * i + m ≤ m * j
 far m i j h = rw (← mul-suc m i) (mul-le-mul_left m h)
 
 module _ {T : Type 0} (fits : List ℤ → Bool) (after : T → List ℤ → T) (answer : T → List ℤ → List ℕ) where
-  text_end : (s : Fed T) (b : ℕ) → s.stopped ≡ false → eqb b 10 ≡ true → byte_text fits answer s b ≡ end_text fits answer s.kept (read_end s.reading)
-  unfolding byte_text
-  text_end s b h e = rw (h, e) refl
-
-  text_on : (s : Fed T) (b : ℕ) → s.stopped ≡ false → eqb b 10 ≡ false → byte_text fits answer s b ≡ []
-  unfolding byte_text
-  text_on s b h e = rw (h, e) refl
-
   part_text : T → Part → List ℕ
   part_text t p = cond p.ended (end_text fits answer t p.reading) []
 
@@ -138,15 +114,12 @@ module _ {T : Type 0} (fits : List ℤ → Bool) (after : T → List ℤ → T) 
       text_fed fits after answer s (b ∷ bs)
       ≡ part_text s.kept (part_of s.reading (b ∷ bs))
       ++ text_fed fits after answer (part_fed fits after s.kept (part_of s.reading (b ∷ bs))) (part_of s.reading (b ∷ bs)).behind
-  unfolding text_fed part_of part_fed part_text
-  part_text_lem s b [] h =
-      ⊎_elim (λ e. rw (text_end s b h e, e) refl) (λ e. rw (text_on s b h e, e) refl) (true_or_false (eqb b 10))
+  unfolding text_fed part_of part_fed part_text byte_fed byte_text
+  part_text_lem s b [] h = by_test (eqb b 10) (λ e. rw (h, e) refl) (λ e. rw (h, e) refl)
   part_text_lem s b (c ∷ cs) h =
-      ⊎_elim
-      (λ e. rw (byte_end fits after s b h e, text_end s b h e, e) refl)
-      (λ e. rw (byte_on fits after s b h e, text_on s b h e, e)
-      (part_text_lem (record { kept = s.kept; reading = read_next s.reading b; begun = true; stopped = false }) c cs refl))
-      (true_or_false (eqb b 10))
+      by_test (eqb b 10)
+      (λ e. rw (h, e) refl)
+      (λ e. rw (h, e) (part_text_lem (record { kept = s.kept; reading = read_next s.reading b; begun = true; stopped = false }) c cs refl))
 
   text_ahead : (cur : Fed T) (rest : List ℕ) → 0 < length rest → cur.stopped ≡ false →
       text_fed fits after answer cur rest
@@ -161,11 +134,7 @@ module _ {T : Type 0} (fits : List ℤ → Bool) (after : T → List ℤ → T) 
 
   else-text : (t : T) (p : Part) → p.ended && is_good fits p.reading ≡ false → part_text t p ≡ []
   unfolding part_text
-  else-text t p = by p.ended
-    where
-      by : (e : Bool) → e && is_good fits p.reading ≡ false → cond e (end_text fits answer t p.reading) [] ≡ []
-      by true g = text_bad fits after answer t p.reading g
-      by false g = refl
+  else-text t p g = by_test p.ended (λ e. rw (e, text_bad fits after answer t p.reading (rw e at g)) refl) (λ e. rw e refl)
 
   -- some bytes of a chunk put a text on the page first, m bytes for a byte at most, and rest is left, which puts the rest of it
   pub record Wrote (m : ℕ) (s : Fed T) (chunk : List ℕ) (first page : Page) (cur : Fed T) (rest : List ℕ) : Type 0 where

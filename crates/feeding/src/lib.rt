@@ -16,6 +16,7 @@ pub struct LineFed<'a> {
 }
 
 // The bytes of a chunk, up to the line feed that ends the line, or all there are.
+#[tactic(auto, using(crate::proofs::Parts::part_end, crate::proofs::Parts::part_on, crate::proofs::Parts::part_past))]
 pub fn line_fed<'a>(l: Line, chunk: &'a [u8], numbers: &mut [i32]) -> LineFed<'a>
     ensures chunk_value { part_of (record { line = l; numbers = numbers.old }) chunk.now
         ≡ record { reading = record { line = result.line; numbers = numbers.new }; ended = result.ended; behind = result.rest.now } }

@@ -114,6 +114,7 @@ fn places(n: u64) -> usize
 
 // The digits of n where there are as many places: from the last one up, so they need no copy. By place, since a proof knows nothing of
 // what `iter_mut().rev()` leaves.
+#[tactic(auto, using(crate::proofs::Written::spelt_start, crate::proofs::Written::spelt_more), unfolding(crate::specs::Decimal::last_digits))]
 fn spell(n: u64, out: &mut [u8])
     requires { length out.old ≡ length (count_text n) }
     ensures { out.new ≡ count_text n }
