@@ -3,7 +3,6 @@
 use mathlib.Core.Path.{◌≡◌, refl, sym, ◌∙◌}
 use mathlib.Core.Bool.{Bool, true, cond}
 use mathlib.Core.List.{List}
-use mathlib.Core.Logic.{⊎_elim}
 use mathlib.Core.Option.{Option, none, some}
 use Prim.Native.Nat.{ℕ, ◌≤◌, ◌<◌}
 use native.Mathlib.Omega.{arith}
@@ -12,7 +11,7 @@ use lib.ListN.{length}
 use Rattle.text.specs.Grammar.{line_of}
 use Rattle.text.specs.Automaton.{Reading, line_read}
 use Rattle.text.proofs.Lines.{Taken, accepted, refused, too_many, first_numbers}
-use Rattle.fixed.proofs.Choice.{less_or_not, true_or_false}
+use Rattle.fixed.proofs.Choice.{by_test, by_order}
 use Rattle.feeding.specs.Lines.{if_fits, good_in}
 use Rattle.feeding.specs.Feeding.{front, is_good}
 
@@ -35,7 +34,7 @@ module _ (fits : List ℤ → Bool) where
 
   told_long : (zs : List ℤ) (n : ℕ) → Room fits n → n < length zs → if_fits fits (some zs) ≡ none
   unfolding if_fits
-  told_long zs n room h = ⊎_elim (λ e. absurd (omega (arith, room zs e, h))) (λ e. rw e refl) (true_or_false (fits zs))
+  told_long zs n room h = by_test (fits zs) (λ e. absurd (omega (arith, room zs e, h))) (λ e. rw e refl)
 
   pub line_told : (bs : List ℕ) (ns : List ℤ) → Room fits (length ns) → told (line_read ns bs) ≡ good_in fits bs
   unfolding good_in if_fits
@@ -44,7 +43,6 @@ module _ (fits : List ℤ → Bool) where
       by : (o : Option (List ℤ)) → line_of bs ≡ o → told (line_read ns bs) ≡ if_fits fits o
       by none e = told_bad (line_read ns bs) (refused bs ns e)
       by (some zs) e =
-          ⊎_elim
+          by_order (length ns) (length zs)
           (λ l. told_bad (line_read ns bs) (too_many bs ns zs e l) ∙ sym (told_long zs (length ns) room l))
           (λ l. told_taken ns zs (line_read ns bs) (accepted bs ns zs e l))
-          (less_or_not (length ns) (length zs))

@@ -3,7 +3,6 @@
 use mathlib.Core.Path.{◌≡◌, refl, sym, ◌∙◌, ap}
 use mathlib.Core.Bool.{Bool, true, false}
 use mathlib.Core.List.{List, [], ◌∷◌, ◌++◌}
-use mathlib.Core.Logic.{⊎_elim}
 use mathlib.Core.Option.{none, some}
 use Prim.Native.Nat.{ℕ}
 use lib.Dec.{eqb}
@@ -11,7 +10,7 @@ use lib.IntN.{ℤ}
 use lib.ListN.{length}
 use Rattle.text.specs.Automaton.{Reading, read_all, line_read}
 use Rattle.text.proofs.Lines.{read_more}
-use Rattle.fixed.proofs.Choice.{true_or_false}
+use Rattle.fixed.proofs.Choice.{by_test}
 use Rattle.feeding.specs.Lines.{lines_of, rest_of, any, good_in, good_then, good_of, bad_or, bad_of, after_all, answers_to}
 use Rattle.feeding.specs.Feeding.{Fed, line_at, line_due, front, is_good, end_fed, end_text, byte_fed, byte_text, fed_of, text_fed}
 use Rattle.feeding.proofs.Parts.{read_length}
@@ -54,7 +53,7 @@ module _ {T : Type 0} (fits : List ℤ → Bool) (after : T → List ℤ → T) 
       Comes t (fed_of fits after (end_fed fits after t r) bs) (end_text fits answer t r ++ text_fed fits after answer (end_fed fits after t r) bs) (p ∷ ws) w
   unfolding good_of good_then bad_of bad_or after_all answers_to
   ended t r p bs ws w l c =
-      ⊎_elim
+      by_test (is_good fits r)
       (λ y. let g : good_in fits p ≡ some (front r) = sym l ∙ rw y refl in
       let f = end_good fits after t r y in
       let x = text_good fits after answer t r y in
@@ -65,7 +64,6 @@ module _ {T : Type 0} (fits : List ℤ → Bool) (after : T → List ℤ → T) 
       let k = fed_stopped fits after (stopped_at t r) bs refl in
       let m = text_stopped fits after answer (stopped_at t r) bs refl in
       record { keeps = rw (g, f, k) refl; ends = rw (g, f, k) refl; writes = rw (g, f, x, m) refl })
-      (true_or_false (is_good fits r))
 
   at_feed : (n : ℕ) → Room fits n → (t : T) (o : List ℤ) (p : List ℕ) (b : ℕ) (bs : List ℕ) → length o ≡ n → eqb b 10 ≡ true →
       ((u : T) (k : List ℤ) → length k ≡ n → Coming u (line_due u k) bs (lines_of [] bs) (rest_of [] bs)) →
@@ -79,10 +77,9 @@ module _ {T : Type 0} (fits : List ℤ → Bool) (after : T → List ℤ → T) 
   unfolding fed_of text_fed lines_of rest_of good_of bad_of after_all answers_to read_all any
   lines n room t o p [] h = record { keeps = refl; ends = refl; writes = refl }
   lines n room t o p (b ∷ bs) h =
-      ⊎_elim
+      by_test (eqb b 10)
       (λ e. at_feed n room t o p b bs h e (λ u k q. lines n room u k [] bs q))
       (λ e. at_byte t o p b bs e (lines n room t o (p ++ (b ∷ [])) bs h))
-      (true_or_false (eqb b 10))
 
   -- the whole input, from before its first line
   pub comes : (t : T) (o : List ℤ) (input : List ℕ) → Room fits (length o) → Coming t (line_due t o) input (lines_of [] input) (rest_of [] input)

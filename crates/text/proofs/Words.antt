@@ -21,19 +21,10 @@ use Rattle.fixed.proofs.Choice.{by_test, by_order}
 pub word_number : Word → Option ℤ
 word_number w = cond (word_ok w) (some (word_value w)) none
 
--- ════ one byte: a digit, or any other
-next_digit : (w : Word) (b : ℕ) → is_digit b ≡ true → word_next w b ≡ digit_next w b
-unfolding word_next
-next_digit w b d = rw d
-
-next_other : (w : Word) (b : ℕ) → is_digit b ≡ false → word_next w b ≡ other_next w b
-unfolding word_next
-next_other w b d = rw d
-
 -- ════ a word that is bad stays so, and is no number
 bad_next : (w : Word) (b : ℕ) → w.bad ≡ true → (word_next w b).bad ≡ true
-unfolding digit_next other_next
-bad_next w b h = by_test (is_digit b) (λ d. rw (next_digit w b d) h) (λ d. rw (next_other w b d, h))
+unfolding word_next digit_next other_next
+bad_next w b h = by_test (is_digit b) (λ d. rw d h) (λ d. rw (d, h))
 
 bad_after : (w : Word) (bs : List ℕ) → w.bad ≡ true → word_number (word_after w bs) ≡ none
 unfolding word_after word_number word_ok
@@ -88,22 +79,22 @@ more_is (b ∷ bs) = more_true 0 (b ∷ bs)
 
 -- ════ digits to the end, where a sign or a digit came: any other byte is one too many
 run : (m t : Bool) (v n : ℕ) → Stands v n → m || t ≡ true → (bs : List ℕ) → word_number (word_after (going m t v) bs) ≡ fitting m (more t n bs)
-unfolding word_after digit_next other_next more fitting
+unfolding word_after word_next digit_next other_next more fitting
 run m t v n s h [] = answers m t v n s
 run m t v n s h (b ∷ bs) =
     by_test (is_digit b)
-    (λ d. rw (next_digit (going m t v) b d, d) (run m true (min v 214748365 * 10 + (b - 48)) (n * 10 + (b - 48)) (stands_next v n (b - 48) s) (or-true m) bs))
-    (λ d. rw (next_other (going m t v) b d, d) (bad_after (other_next (going m t v) b) bs (rw h)))
+    (λ d. rw d (run m true (min v 214748365 * 10 + (b - 48)) (n * 10 + (b - 48)) (stands_next v n (b - 48) s) (or-true m) bs))
+    (λ d. rw d (bad_after (other_next (going m t v) b) bs (rw h)))
 
 -- ════ the automaton is the grammar, for any bytes
 pub word_reads : (bs : List ℕ) → word_number (word_after word_start bs) ≡ number_of bs
-unfolding word_start word_after digit_next other_next number_of more fitting
+unfolding word_start word_after word_next digit_next other_next number_of more fitting
 word_reads [] = answers false false 0 0 refl
 word_reads (b ∷ bs) =
-    by_test (eqb b 45) (λ e. rw (eqb-true b 45 e, next_other word_start 45 refl, ← more_is bs) (run true false 0 0 refl refl bs))
+    by_test (eqb b 45) (λ e. rw (eqb-true b 45 e, ← more_is bs) (run true false 0 0 refl refl bs))
     (λ e. rw (e, ← more_is (b ∷ bs)) (by_test (is_digit b)
-    (λ d. rw (next_digit word_start b d, d) (run false true (0 * 10 + (b - 48)) (0 * 10 + (b - 48)) refl refl bs))
-    (λ d. rw (next_other word_start b d, d) (bad_after (other_next word_start b) bs (rw e)))))
+    (λ d. rw d (run false true (0 * 10 + (b - 48)) (0 * 10 + (b - 48)) refl refl bs))
+    (λ d. rw d (bad_after (record { minus = true; digits = false; bad = true; value = 0 }) bs refl))))
 
 -- the same in words: it says yes exactly of a number, and then has its value
 pub word_good : (bs : List ℕ) → word_ok (word_after word_start bs) ≡ true → number_of bs ≡ some (word_value (word_after word_start bs))
