@@ -1,20 +1,20 @@
 -- The bytes of one line, from a place in a chunk on.
 -- Assumes nothing.
-use mathlib.Core.Path.{◌≡◌, refl, sym, ◌∙◌, ap}
+use mathlib.Core.Path.{◌≡◌, refl, sym, ◌∙◌}
 use mathlib.Core.Bool.{Bool, true, false, cond, ◌&&◌, true≢false}
 use mathlib.Core.List.{List, [], ◌∷◌}
 use mathlib.Core.Logic.{⊎_elim}
-use Prim.Native.Nat.{ℕ, ◌+◌, ◌≤◌, ◌<◌}
+use Prim.Native.Nat.{ℕ, ◌+◌, ◌-◌, ◌≤◌, ◌<◌}
 use native.Mathlib.Numerals.{add-one}
 use native.Mathlib.Omega.{arith}
 use borrow.Author.Tests.{eq-eqb, ne_eqb, ltb-true}
 use lib.Dec.{eqb, ltb}
 use lib.IntN.{ℤ}
-use lib.ListN.{length, get_or, drop, set, drop_of_length-le, length-set}
-use lib.Seq.{drop-cons}
+use lib.ListN.{length, get_or, take, drop, set, drop_of_length-le, length-set, length-drop}
+use lib.Seq.{drop-cons, take_all}
 use Rattle.fixed.proofs.HeldLaws.{and_right}
 use Rattle.text.specs.declared.Line.{Line}
-use Rattle.text.specs.Automaton.{takes, word_ok, word_value, line_more, line_bad, line_next, line_end}
+use Rattle.text.specs.Automaton.{takes, word_ok, word_value, line_more, line_bad, line_end}
 use Rattle.text.specs.Automaton.{numbers_next, numbers_end, Reading, read_next, read_all, read_end, line_read}
 use Rattle.fixed.proofs.Choice.{true_or_false}
 use Rattle.feeding.specs.Feeding.{part_of}
@@ -44,10 +44,12 @@ read_length o bs = end_length _ _ ∙ all_length _ bs
 -- ════ one byte
 module _ (r : Reading) (chunk : List ℕ) (i : ℕ) where
   -- a line feed ends it
-  pub part_end : i < length chunk → get_or chunk i 0 ≡ 10 → part_of r
-      (drop i chunk) ≡ record { reading = read_end r; ended = true; behind = drop (i + 1) chunk }
+  pub part_end : i < length chunk → get_or chunk i 0 ≡ 10
+      → part_of r (drop i chunk) ≡ record { reading = read_end r; ended = true; behind = take (length chunk - (i + 1)) (drop (i + 1) chunk) }
   unfolding part_of
-  part_end h e = rw (drop-cons chunk i 0 h, add-one i, eq-eqb (get_or chunk i 0) 10 e) refl
+  part_end h e =
+      let l : length (drop (i + 1) chunk) ≤ length chunk - (i + 1) = omega (arith, length-drop {A = ℕ}) in
+      rw (drop-cons chunk i 0 h, eq-eqb (get_or chunk i 0) 10 e, take_all _ (drop (i + 1) chunk) l, add-one i) refl
 
   -- any other byte goes to it
   pub part_on : i < length chunk → (get_or chunk i 0 ≡ 10 → ⊥) → part_of r (drop i chunk) ≡ part_of (read_next r (get_or chunk i 0)) (drop (i + 1) chunk)
@@ -58,41 +60,6 @@ module _ (r : Reading) (chunk : List ℕ) (i : ℕ) where
   pub part_past : length chunk ≤ i → part_of r (drop i chunk) ≡ record { reading = r; ended = false; behind = [] }
   unfolding part_of
   part_past h = rw (drop_of_length-le chunk {i = i} h) refl
-
--- what stands of a chunk once its bytes up to i went to the line: those that are left make of it what all make of the line at the start
-pub record Going (r : Reading) (chunk : List ℕ) (from : ℕ) (cur : Reading) (i : ℕ) : Type 0 where
-  pub low : from ≤ i
-  pub high : i ≤ length chunk
-  pub wide : length cur.numbers ≡ length r.numbers
-  pub ahead : part_of r (drop from chunk) ≡ part_of cur (drop i chunk)
-
-pub going_on : {r : Reading} {chunk : List ℕ} {from : ℕ} {cur : Reading} {i : ℕ} {l : Line} {ns : List ℤ}
-    → Going r chunk from cur i → i < length chunk → (get_or chunk i 0 ≡ 10 → ⊥) →
-    l ≡ line_next cur.line (get_or chunk i 0) (length cur.numbers)
-    → ns ≡ numbers_next cur.line (get_or chunk i 0) cur.numbers → Going r chunk from (record { line = l; numbers = ns }) (i + 1)
-going_on {r} {chunk} {from} {cur} {i} {l} {ns} g h e el en = record {
-  low = omega (arith, g.low);
-  high = omega (arith, h);
-  wide = ap length en ∙ next_length cur.line (get_or chunk i 0) cur.numbers ∙ g.wide;
-  ahead = g.ahead ∙ part_on cur chunk i h e ∙ rw (el, en) refl;
-}
-
--- what is said of a line l and numbers ns at the place i
-abbrev Told : Reading → List ℕ → ℕ → Line → List ℤ → Bool → ℕ → Type 0
-Told r chunk from l ns ended i =
-    (part_of r (drop from chunk) ≡ record { reading = record { line = l; numbers = ns }; ended = ended; behind = drop i chunk })
-    × ((i ≤ length chunk) × (from < length chunk → from < i))
-
-pub going_ended : {r : Reading} {chunk : List ℕ} {from : ℕ} {cur : Reading} {i : ℕ} {l : Line} {ns : List ℤ}
-    → Going r chunk from cur i → i < length chunk → get_or chunk i 0 ≡ 10 →
-    l ≡ line_end cur.line (length cur.numbers) → ns ≡ numbers_end cur.line cur.numbers → Told r chunk from l ns true (i + 1)
-going_ended {r} {chunk} {from} {cur} {i} g h e el en =
-    (g.ahead ∙ part_end cur chunk i h e ∙ rw (el, en) refl, (omega (arith, h), λ q. omega (arith, g.low)))
-
-pub going_past : {r : Reading} {chunk : List ℕ} {from : ℕ} {cur : Reading} {i : ℕ}
-    → Going r chunk from cur i → length chunk ≤ i → Told r chunk from cur.line cur.numbers false i
-going_past {r} {chunk} {from} {cur} {i} g h =
-    (g.ahead ∙ part_past cur chunk i h ∙ rw (drop_of_length-le chunk {i = i} h) refl, (g.high, λ q. omega (arith, h, q)))
 
 -- however far it goes
 pub part_length : (r : Reading) (bs : List ℕ) → length (part_of r bs).reading.numbers ≡ length r.numbers

@@ -4,19 +4,19 @@ use mathlib.Core.Path.{◌≡◌, refl, sym, ◌∙◌, ap}
 use mathlib.Core.Bool.{Bool, true, false, cond, not, ◌&&◌}
 use mathlib.Core.List.{List, [], ◌∷◌, ◌++◌, append_assoc, append-nil}
 use mathlib.Core.Logic.{⊎_elim}
-use Prim.Native.Nat.{ℕ, suc, ◌+◌, ◌*◌, ◌≤◌, ◌<◌}
+use Prim.Native.Nat.{ℕ, ◌+◌, ◌*◌, ◌≤◌, ◌<◌}
 use native.Mathlib.Nat.{mul-suc, mul-le-mul_left}
 use native.Mathlib.Omega.{arith}
 use lib.Dec.{eqb}
 use lib.IntN.{ℤ}
-use lib.ListN.{length, get_or, drop, drop_of_length-le}
-use lib.Seq.{drop-cons}
+use lib.ListN.{length}
+use Rattle.std.proofs.lemmas.List.{nil_from_length}
 use Rattle.fixed.proofs.HeldLaws.{and_left, and_right}
 use Rattle.text.specs.Automaton.{Reading, read_next, read_end}
-use Rattle.writing.specs.Decimal.{written}
+use Rattle.writing.specs.declared.Page.{Page}
+use Rattle.writing.specs.Page.{Put, Room}
 use Rattle.fixed.proofs.Choice.{true_or_false}
-use Rattle.writing.proofs.Written.{written_none, written_length}
-use Rattle.writing.proofs.TextLaws.{Put, put, put_then}
+use Rattle.writing.proofs.PageLaws.{none, then}
 use Rattle.feeding.specs.Feeding.{Part, part_of, Fed, line_due, front, is_good, end_fed, end_text, byte_fed, byte_text, fed_of, text_fed}
 use Rattle.feeding.proofs.Parts.{part_length, part_count}
 use Rattle.feeding.proofs.Pieces.{end_good, end_bad, text_good, text_bad, fed_stopped, text_stopped}
@@ -79,50 +79,45 @@ module _ {T : Type 0} (fits : List ℤ → Bool) (after : T → List ℤ → T) 
       by true e g = end_bad fits after t p.reading g ∙ rw e refl
       by false e g = refl
 
-  -- ════ what stands once the first i bytes of a chunk made cur of s: what is left makes of cur what all makes of s
-  pub record Upto (s : Fed T) (chunk : List ℕ) (cur : Fed T) (i : ℕ) : Type 0 where
-    pub low : i ≤ length chunk
+  -- ════ what stands once some bytes of a chunk made cur of s, and rest is left: what is left makes of cur what all makes of s
+  pub record Upto (s : Fed T) (chunk : List ℕ) (cur : Fed T) (rest : List ℕ) : Type 0 where
     pub wide : length cur.reading.numbers ≡ length s.reading.numbers
-    pub same : fed_of fits after s chunk ≡ fed_of fits after cur (drop i chunk)
+    pub same : fed_of fits after s chunk ≡ fed_of fits after cur rest
 
-  pub upto_start : (s : Fed T) (chunk : List ℕ) → Upto s chunk s 0
-  upto_start s chunk = record { low = omega arith; wide = refl; same = refl }
+  pub upto_start : (s : Fed T) (chunk : List ℕ) → Upto s chunk s chunk
+  upto_start s chunk = record { wide = refl; same = refl }
 
-  fed_ahead : (cur : Fed T) (chunk : List ℕ) (i : ℕ) (p : Part) → i < length chunk → cur.stopped ≡ false → part_of cur.reading (drop i chunk) ≡ p →
-      fed_of fits after cur (drop i chunk) ≡ fed_of fits after (part_fed cur.kept p) p.behind
-  fed_ahead cur chunk i p h g e = rw (← e, drop-cons chunk i 0 h) (part_fed_lem cur (get_or chunk i 0) (drop (suc i) chunk) g)
+  fed_ahead : (cur : Fed T) (rest : List ℕ) → 0 < length rest → cur.stopped ≡ false →
+      fed_of fits after cur rest ≡ fed_of fits after (part_fed cur.kept (part_of cur.reading rest)) (part_of cur.reading rest).behind
+  fed_ahead cur [] h g = absurd (omega (arith, h))
+  fed_ahead cur (b ∷ bs) h g = part_fed_lem cur b bs g
 
-  -- the bytes from i up to j made p of the line
-  module _ {s : Fed T} {chunk : List ℕ} {cur : Fed T} {i j : ℕ} {p : Part} (u : Upto s chunk cur i) (h : i < length chunk) (g : cur.stopped ≡ false)
-      (l : j ≤ length chunk) (e : part_of cur.reading (drop i chunk) ≡ p) (d : drop j chunk ≡ p.behind) where
-    upto_part : {n : Fed T} → part_fed cur.kept p ≡ n → n.reading.numbers ≡ p.reading.numbers → Upto s chunk n j
+  -- a part p of the line was fed
+  module _ {s : Fed T} {chunk : List ℕ} {cur : Fed T} {rest : List ℕ} {p : Part} (u : Upto s chunk cur rest) (h : 0 < length rest)
+      (g : cur.stopped ≡ false) (e : part_of cur.reading rest ≡ p) where
+    upto_part : {n : Fed T} → part_fed cur.kept p ≡ n → n.reading.numbers ≡ p.reading.numbers → Upto s chunk n p.behind
     upto_part {n} f w = record {
-      low = l;
-      wide = ap length (w ∙ ap (λ (z : Part). z.reading.numbers) (sym e)) ∙ part_length cur.reading (drop i chunk) ∙ u.wide;
-      same = u.same ∙ fed_ahead cur chunk i p h g e ∙ rw (f, d) refl;
+      wide = ap length (w ∙ ap (λ (z : Part). z.reading.numbers) (sym e)) ∙ part_length cur.reading rest ∙ u.wide;
+      same = u.same ∙ fed_ahead cur rest h g ∙ rw (e, f) refl;
     }
 
-    -- they end a good line
-    pub upto_good : p.ended && is_good fits p.reading ≡ true → Upto s chunk (line_due (after cur.kept (front p.reading)) p.reading.numbers) j
+    -- it ends a good line
+    pub upto_good : p.ended && is_good fits p.reading ≡ true → Upto s chunk (line_due (after cur.kept (front p.reading)) p.reading.numbers) p.behind
     upto_good f = upto_part (part_good cur.kept p f) refl
 
-    -- they end none, or the line goes on
-    pub upto_else : p.ended && is_good fits p.reading ≡ false → Upto s chunk (part_at cur.kept p) j
+    -- it ends none, or the line goes on
+    pub upto_else : p.ended && is_good fits p.reading ≡ false → Upto s chunk (part_at cur.kept p) p.behind
     upto_else f = upto_part (part_else cur.kept p f) refl
 
   -- the end: of the chunk, or at a bad line
-  pub upto_past : {s : Fed T} {chunk : List ℕ} {cur : Fed T} {i : ℕ} → Upto s chunk cur i → length chunk ≤ i → cur ≡ fed_of fits after s chunk
+  pub upto_past : {s : Fed T} {chunk : List ℕ} {cur : Fed T} {rest : List ℕ} → Upto s chunk cur rest → length rest ≡ 0 → cur ≡ fed_of fits after s chunk
   unfolding fed_of
-  upto_past {s} {chunk} {cur} {i} u h = sym (u.same ∙ rw (drop_of_length-le chunk {i = i} h) refl)
+  upto_past {rest = rest} u e = sym (u.same ∙ rw (nil_from_length rest e) refl)
 
-  pub upto_stopped : {s : Fed T} {chunk : List ℕ} {cur : Fed T} {i : ℕ} → Upto s chunk cur i → cur.stopped ≡ true → cur ≡ fed_of fits after s chunk
-  upto_stopped {s} {chunk} {cur} {i} u h = sym (u.same ∙ fed_stopped fits after cur (drop i chunk) h)
+  pub upto_stopped : {s : Fed T} {chunk : List ℕ} {cur : Fed T} {rest : List ℕ} → Upto s chunk cur rest → cur.stopped ≡ true → cur ≡ fed_of fits after s chunk
+  upto_stopped {cur = cur} {rest} u h = sym (u.same ∙ fed_stopped fits after cur rest h)
 
 -- ════ the same of what is written
--- nothing
-put_none : {o : List ℕ} {at : ℕ} → Put o at [] o at
-put_none {o} {at} = put (omega arith) (written_none o at)
-
 -- room for m bytes a byte
 far : (m i j : ℕ) → i < j → m * i + m ≤ m * j
 far m i j h = rw (← mul-suc m i) (mul-le-mul_left m h)
@@ -153,9 +148,12 @@ module _ {T : Type 0} (fits : List ℤ → Bool) (after : T → List ℤ → T) 
       (part_text_lem (record { kept = s.kept; reading = read_next s.reading b; begun = true; stopped = false }) c cs refl))
       (true_or_false (eqb b 10))
 
-  text_ahead : (cur : Fed T) (chunk : List ℕ) (i : ℕ) (p : Part) → i < length chunk → cur.stopped ≡ false → part_of cur.reading (drop i chunk) ≡ p →
-      text_fed fits after answer cur (drop i chunk) ≡ part_text cur.kept p ++ text_fed fits after answer (part_fed fits after cur.kept p) p.behind
-  text_ahead cur chunk i p h g e = rw (← e, drop-cons chunk i 0 h) (part_text_lem cur (get_or chunk i 0) (drop (suc i) chunk) g)
+  text_ahead : (cur : Fed T) (rest : List ℕ) → 0 < length rest → cur.stopped ≡ false →
+      text_fed fits after answer cur rest
+      ≡ part_text cur.kept (part_of cur.reading rest)
+      ++ text_fed fits after answer (part_fed fits after cur.kept (part_of cur.reading rest)) (part_of cur.reading rest).behind
+  text_ahead cur [] h g = absurd (omega (arith, h))
+  text_ahead cur (b ∷ bs) h g = part_text_lem cur b bs g
 
   good_text : (t : T) (p : Part) → p.ended && is_good fits p.reading ≡ true → part_text t p ≡ answer t (front p.reading)
   unfolding part_text
@@ -169,60 +167,51 @@ module _ {T : Type 0} (fits : List ℤ → Bool) (after : T → List ℤ → T) 
       by true g = text_bad fits after answer t p.reading g
       by false g = refl
 
-  -- the first i bytes of a chunk wrote a text over o from the place at on, m bytes for a byte at most; what is left writes the rest of it
-  pub record Wrote (m : ℕ) (s : Fed T) (chunk : List ℕ) (at : ℕ) (o out : List ℕ) (cur : Fed T) (place i : ℕ) : Type 0 where
-    pub room : at + m * length chunk ≤ length o
-    pub near : place ≤ at + m * i
-    pub long : length out ≡ length o
+  -- some bytes of a chunk put a text on the page first, m bytes for a byte at most, and rest is left, which puts the rest of it
+  pub record Wrote (m : ℕ) (s : Fed T) (chunk : List ℕ) (first page : Page) (cur : Fed T) (rest : List ℕ) : Type 0 where
+    pub room : Room page (m * length rest)
+    pub near : page.at + m * length rest ≤ first.at + m * length chunk
     pub text : List ℕ
-    pub all_text : text_fed fits after answer s chunk ≡ text ++ text_fed fits after answer cur (drop i chunk)
-    pub stands : Put o at text out place
+    pub all_text : text_fed fits after answer s chunk ≡ text ++ text_fed fits after answer cur rest
+    pub stands : Put first page text
 
-  pub wrote_start : {m : ℕ} (s : Fed T) (chunk : List ℕ) (at : ℕ) (o : List ℕ) → at + m * length chunk ≤ length o → Wrote m s chunk at o o s at 0
-  wrote_start s chunk at o r = record { room = r; near = omega arith; long = refl; text = []; all_text = refl; stands = put_none }
+  pub wrote_start : {m : ℕ} (s : Fed T) (chunk : List ℕ) (page : Page) → Room page (m * length chunk) → Wrote m s chunk page page s chunk
+  wrote_start s chunk page r = record { room = r; near = omega arith; text = []; all_text = refl; stands = none page (omega arith) }
 
-  module _ {m : ℕ} {s : Fed T} {chunk : List ℕ} {at : ℕ} {o out : List ℕ} {cur : Fed T} {place i j : ℕ} {p : Part}
-      (w : Wrote m s chunk at o out cur place i) (h : i < length chunk) (g : cur.stopped ≡ false)
-      (k : i < j) (l : j ≤ length chunk) (e : part_of cur.reading (drop i chunk) ≡ p) (d : drop j chunk ≡ p.behind) where
-    wrote_part : {n : Fed T} {x next : List ℕ} {end : ℕ} → part_fed fits after cur.kept p ≡ n → part_text cur.kept p ≡ x →
-        Put out place x next end → end ≤ place + m → Wrote m s chunk at o next n end j
-    wrote_part {n} {x} {next} {end} f t y q =
-        let a = far m i j k in
-        let r : place + length x ≤ length out = omega (arith, w.near, w.room, w.long, q, y.next, a, mul-le-mul_left m l) in
+  module _ {m : ℕ} {s : Fed T} {chunk : List ℕ} {first page : Page} {cur : Fed T} {rest : List ℕ} {p : Part}
+      (w : Wrote m s chunk first page cur rest) (h : 0 < length rest) (g : cur.stopped ≡ false)
+      (e : part_of cur.reading rest ≡ p) (k : length p.behind < length rest) where
+    wrote_part : {n : Fed T} {x : List ℕ} {next : Page} → part_fed fits after cur.kept p ≡ n → part_text cur.kept p ≡ x →
+        Put page next x → next.at ≤ page.at + m → Wrote m s chunk first next n p.behind
+    wrote_part {n} {x} {next} f t y q =
+        let a = far m (length p.behind) (length rest) k in
         record {
-          room = w.room;
+          room = omega (arith, w.room, y.long, q, a);
           near = omega (arith, w.near, q, a);
-          long = ap length y.wrote ∙ written_length out x place r ∙ w.long;
           text = w.text ++ x;
           all_text =
               w.all_text
-              ∙ ap (λ (z : List ℕ). w.text ++ z) (text_ahead cur chunk i p h g e ∙ rw (f, t, ← d) refl)
-              ∙ sym (append_assoc w.text x (text_fed fits after answer n (drop j chunk)));
-          stands = put_then w.stands y (omega (arith, w.stands.next, r, w.long));
+              ∙ ap (λ (z : List ℕ). w.text ++ z) (text_ahead cur rest h g ∙ rw (e, f, t) refl)
+              ∙ sym (append_assoc w.text x (text_fed fits after answer n p.behind));
+          stands = then w.stands y;
         }
 
-    pub wrote_good : {next : List ℕ} {end : ℕ} → p.ended && is_good fits p.reading ≡ true
-        → Put out place (answer cur.kept (front p.reading)) next end → end ≤ place + m →
-        Wrote m s chunk at o next (line_due (after cur.kept (front p.reading)) p.reading.numbers) end j
+    pub wrote_good : {next : Page} → p.ended && is_good fits p.reading ≡ true
+        → Put page next (answer cur.kept (front p.reading)) → next.at ≤ page.at + m →
+        Wrote m s chunk first next (line_due (after cur.kept (front p.reading)) p.reading.numbers) p.behind
     wrote_good f = wrote_part (part_good fits after cur.kept p f) (good_text cur.kept p f)
 
-    pub wrote_else : p.ended && is_good fits p.reading ≡ false → Wrote m s chunk at o out (part_at cur.kept p) place j
-    wrote_else f = wrote_part (part_else fits after cur.kept p f) (else-text cur.kept p f) put_none (omega arith)
+    pub wrote_else : p.ended && is_good fits p.reading ≡ false → Wrote m s chunk first page (part_at cur.kept p) p.behind
+    wrote_else f = wrote_part (part_else fits after cur.kept p f) (else-text cur.kept p f) (none page (omega (arith, w.room))) (omega arith)
 
   -- the end: nothing is left to write
-  module _ {m : ℕ} {s : Fed T} {chunk : List ℕ} {at : ℕ} {o out : List ℕ} {cur : Fed T} {place i : ℕ}
-      (w : Wrote m s chunk at o out cur place i) (h : i ≤ length chunk) where
-    wrote_all : text_fed fits after answer cur (drop i chunk) ≡ [] →
-        (place ≡ at + length (text_fed fits after answer s chunk)) × (out ≡ written o at (text_fed fits after answer s chunk)) × (place ≤ at + m * length chunk)
-    wrote_all e =
-        let t : text_fed fits after answer s chunk ≡ w.text = w.all_text ∙ ap (λ (l : List ℕ). w.text ++ l) e ∙ append-nil w.text in
-        (rw t w.stands.next, rw t w.stands.wrote, omega (arith, w.near, mul-le-mul_left m h))
+  module _ {m : ℕ} {s : Fed T} {chunk : List ℕ} {first page : Page} {cur : Fed T} {rest : List ℕ} (w : Wrote m s chunk first page cur rest) where
+    wrote_all : text_fed fits after answer cur rest ≡ [] → Put first page (text_fed fits after answer s chunk) × (page.at ≤ first.at + m * length chunk)
+    wrote_all e = (rw (w.all_text, e, append-nil w.text) w.stands, omega (arith, w.near))
 
-    pub wrote_past : length chunk ≤ i → (place ≡ at + length (text_fed fits after answer s chunk))
-        × (out ≡ written o at (text_fed fits after answer s chunk)) × (place ≤ at + m * length chunk)
+    pub wrote_past : length rest ≡ 0 → Put first page (text_fed fits after answer s chunk) × (page.at ≤ first.at + m * length chunk)
     unfolding text_fed
-    wrote_past q = wrote_all (rw (drop_of_length-le chunk {i = i} q) refl)
+    wrote_past q = wrote_all (rw (nil_from_length rest q) refl)
 
-    pub wrote_stopped : cur.stopped ≡ true → (place ≡ at + length (text_fed fits after answer s chunk))
-        × (out ≡ written o at (text_fed fits after answer s chunk)) × (place ≤ at + m * length chunk)
-    wrote_stopped q = wrote_all (text_stopped fits after answer cur (drop i chunk) q)
+    pub wrote_stopped : cur.stopped ≡ true → Put first page (text_fed fits after answer s chunk) × (page.at ≤ first.at + m * length chunk)
+    wrote_stopped q = wrote_all (text_stopped fits after answer cur rest q)

@@ -1,44 +1,40 @@
 // Lines that are fed in chunks of any size: a line's bytes go to it as they come, whole or not.
 #![tactic(auto)]
 
-ghost use Rattle.std.specs.Prelude.{◌≡◌, ◌≤◌, ◌<◌, length, drop};
+ghost use Rattle.std.specs.Prelude.{◌≡◌, ◌≤◌, ◌<◌, length};
 ghost use Rattle.feeding.specs.Lines.{one_more};
 ghost use Rattle.feeding.specs.Feeding.{part_of};
 
 use text::Line;
 
-// Bytes went to a line: the line after them, the place behind them, and whether they ended it.
+// Bytes went to a line: the line after them, the bytes behind them, and whether they ended it.
 #[derive(Clone, Copy)]
-pub struct LineFed {
+pub struct LineFed<'a> {
     pub line: Line,
-    pub place: usize,
+    pub rest: &'a [u8],
     pub ended: bool,
 }
 
-// The bytes of a chunk from a place on, up to the line feed that ends the line, or all there are.
-pub fn line_fed(l: Line, chunk: &[u8], from: usize, numbers: &mut [i32]) -> LineFed
-    requires { from ≤ length chunk.now }
-    ensures chunk_value { part_of (record { line = l; numbers = numbers.old }) (drop from chunk.now)
-        ≡ record { reading = record { line = result.line; numbers = numbers.new }; ended = result.ended; behind = drop result.place chunk.now } }
-    ensures place_in_bounds { (result.place ≤ length chunk.now) × (from < length chunk.now → from < result.place) }
+// The bytes of a chunk, up to the line feed that ends the line, or all there are.
+pub fn line_fed<'a>(l: Line, chunk: &'a [u8], numbers: &mut [i32]) -> LineFed<'a>
+    ensures chunk_value { part_of (record { line = l; numbers = numbers.old }) chunk.now
+        ≡ record { reading = record { line = result.line; numbers = numbers.new }; ended = result.ended; behind = result.rest.now } }
+    ensures shorter { (length result.rest.now ≤ length chunk.now) × (0 < length chunk.now → length result.rest.now < length chunk.now) }
 {
     let mut line = l;
-    let mut i = from;
-    while i < chunk.len() {
-        let b = chunk[i];
-        i += 1;
+    for (i, &b) in chunk.iter().enumerate() {
         if b == b'\n' {
             return LineFed {
                 line: text::line_end(line, numbers),
-                place: i,
+                rest: &chunk[i + 1..],
                 ended: true,
             };
         }
         line = text::line_next(line, b, numbers);
     }
     LineFed {
-        line: line,
-        place: i,
+        line,
+        rest: &[],
         ended: false,
     }
 }
@@ -47,5 +43,5 @@ pub fn line_fed(l: Line, chunk: &[u8], from: usize, numbers: &mut [i32]) -> Line
 pub fn next(count: u64) -> u64
     ensures { result ≡ one_more count }
 {
-    if count < u64::MAX { count + 1 } else { count }
+    count.saturating_add(1)
 }

@@ -1,8 +1,8 @@
 -- Laws of a number's text: its last digit, how long it is, and how its digits are counted and spelt.
 -- Assumes nothing.
-use mathlib.Core.Path.{◌≡◌, refl, ap, ◌∙◌}
+use mathlib.Core.Path.{◌≡◌, refl}
 use mathlib.Core.List.{List, [], ◌∷◌, ◌++◌}
-use Prim.Native.Nat.{ℕ, zero, suc, ◌+◌, ◌-◌, ◌/◌, ◌^◌, ◌≤◌, ◌<◌}
+use Prim.Native.Nat.{ℕ, zero, suc, ◌+◌, ◌*◌, ◌/◌, ◌^◌, max, ◌≤◌, ◌<◌}
 use native.Mathlib.Nat.{pow-suc}
 use native.Mathlib.Omega.{arith}
 use borrow.Author.Tests.{lt-ltb, le-ltb}
@@ -65,43 +65,46 @@ unfolding text_of
 text_length (pos n) f = omega (arith, short_length n (omega (arith, f.sfits)))
 text_length (negsuc n) f = omega (arith, short_length (suc n) (omega (arith, f.sfits)))
 
--- ════ with a sign and without
-pub text_minus : (z : ℤ) → z <ℤ pos 0 → text_of z ≡ 45 ∷ count_text (nat_abs z)
-unfolding text_of
-text_minus (pos n) h = clash_ℤ h (omega (arith, order))
-text_minus (negsuc n) h = refl
+-- ════ its sign, and the digits of its size behind it
+unfoldable pub sign : ℤ → List ℕ
+sign (pos n) = []
+sign (negsuc n) = 45 ∷ []
 
-pub text_plain : (z : ℤ) → pos 0 ≤ℤ z → text_of z ≡ count_text (nat_abs z)
-unfolding text_of
-text_plain (pos n) h = refl
-text_plain (negsuc n) h = absurd h.le
+pub text_parts : (z : ℤ) → text_of z ≡ sign z ++ count_text (nat_abs z)
+unfolding text_of sign
+text_parts (pos n) = refl
+text_parts (negsuc n) = refl
+
+pub sign_length : (z : ℤ) → length (sign z) ≤ 1
+unfolding sign
+sign_length (pos n) = omega arith
+sign_length (negsuc n) = omega arith
+
+pub sign_minus : (z : ℤ) → z <ℤ pos 0 → sign z ≡ 45 ∷ []
+unfolding sign
+sign_minus (pos n) h = clash_ℤ h (omega (arith, order))
+sign_minus (negsuc n) h = refl
+
+pub sign_plain : (z : ℤ) → pos 0 ≤ℤ z → sign z ≡ []
+unfolding sign
+sign_plain (pos n) h = refl
+sign_plain (negsuc n) h = absurd h.le
 
 -- ════ as the code makes it: so many last digits
-pub last_length : (k n : ℕ) → length (last_digits k n) ≡ k
-unfolding last_digits
-last_length zero n = refl
-last_length (suc k) n = length_more (last_digits k (n / 10)) (digit_of n) ∙ ap suc (last_length k (n / 10))
-
 pub count_is_last : (n : ℕ) → last_digits (length (count_text n)) n ≡ count_text n
 unfolding count_text last_digits
 count_is_last n =
     by_digits (λ k n ds. last_digits (length ds) n ≡ ds) (λ k n e. refl) (λ k n ds l e. rw (length_more ds (digit_of n), e)) 19 n
 
--- what stands while the digits are counted: k so far, and those of rest, of which k − 1 digits are cut off
-pub record Counting (n k rest f : ℕ) : Type 0 where
-  pub sum : k + f ≡ 20
-  pub small : rest < 10 ^ suc f
-  pub so_far : length (count_text n) + 1 ≡ k + length (decimal f rest)
+-- n has one digit more than the power of ten that it reaches
+digits_more : (k j n : ℕ) → j ≤ k → 10 ^ j ≤ max n 1 → n < 10 ^ suc j → length (decimal k n) ≡ suc j
+digits_more k zero n h l r = rw (decimal_one k n (omega arith)) refl
+digits_more zero (suc j) n h l r = absurd (omega (arith, h))
+digits_more (suc k) (suc j) n h l r =
+    let m : 10 ≤ n = omega (arith, pow-suc 10 j) in
+    let e = digits_more k j (n / 10) (omega arith) (omega (arith, pow-suc 10 j)) (tenth (suc j) n r) in
+    rw (decimal_more k n m, length_more, e) refl
 
-pub counting_start : (n : ℕ) → n < 2 ^ 64 → Counting n 1 n 19
+pub digits_of_power : (n j : ℕ) → 10 ^ j ≤ max n 1 → max n 1 < 10 * 10 ^ j → j < 20 → j + 1 ≡ length (count_text n)
 unfolding count_text
-counting_start n h = omega arith
-
-pub counting_more : {n k rest : ℕ} (f : ℕ) → Counting n k rest f → 10 ≤ rest → Counting n (k + 1) (rest / 10) (20 - (k + 1))
-counting_more zero c h = absurd (omega (arith, c.small))
-counting_more {n} {k} {rest} (suc f) c h =
-    let e : 20 - (k + 1) ≡ f = omega (arith, c.sum) in
-    rw e (omega (arith, tenth (suc f) rest c.small, ap length (decimal_more f rest h), length_more (decimal f (rest / 10)) (digit_of rest)))
-
-pub counting_end : {n k rest f : ℕ} → Counting n k rest f → rest < 10 → k ≡ length (count_text n)
-counting_end {n} {k} {rest} {f} c h = omega (arith, ap length (decimal_one f rest h))
+digits_of_power n j l r h = omega (arith, digits_more 19 j n (omega arith) l (omega (arith, pow-suc 10 j)))

@@ -39,10 +39,10 @@ then {p} {q} {r} {xs} {ys} a b =
 pub then_next : {p q r : Page} (bs : List ℕ) (i : ℕ) → i < length bs → Put p q (take i bs) → Put q r (get_or bs i 0 ∷ []) → Put p r (take (i + 1) bs)
 then_next bs i h a b = rw (add-one, take-suc bs i 0) (then a b)
 
--- what copy_from_slice leaves, where it copies into as many places as there are bytes
-pub copied : (o : List ℕ) (at : ℕ) {bs now : List ℕ} → now ≡ bs → put_mid at (at + length bs - at) o now ≡ written o at bs
+-- what is left where as many places as there are bytes were lent for them
+pub copied : (o : List ℕ) (at n : ℕ) {bs now : List ℕ} → now ≡ bs → n ≡ length bs → put_mid at (at + n - at) o now ≡ written o at bs
 unfolding written
-copied o at {bs} e = let k : at + length bs - at ≡ length bs = omega arith in rw (e, k, drop-drop) refl
+copied o at n {bs} e l = let k : at + n - at ≡ n = omega arith in rw (e, k, drop-drop, l) refl
 
 -- the same, of a text that is the two together
 pub then_is : {p q r : Page} {xs ys zs : List ℕ} → Put p q xs → Put q r ys → zs ≡ xs ++ ys → Put p r zs

@@ -1,14 +1,15 @@
 -- Laws of `written`, and digits that are spelt from the last one up.
 -- Assumes nothing.
-use mathlib.Core.Path.{◌≡◌, refl, sym, ◌∙◌}
-use mathlib.Core.List.{List, [], ◌∷◌, ◌++◌, append_assoc}
+use mathlib.Core.Path.{◌≡◌, refl, sym}
+use mathlib.Core.List.{List, [], ◌∷◌, ◌++◌, append_assoc, append-nil}
 use Prim.Native.Nat.{ℕ, zero, suc, ◌+◌, ◌-◌, ◌/◌, ◌≤◌, ◌<◌}
 use native.Mathlib.Numerals.{add-one, sub-one}
 use native.Mathlib.Omega.{arith}
-use lib.ListN.{length, take, drop, set, length-append, length-take, length-drop, length-set, take-append-drop}
-use lib.Seq.{set_split, drop_at, take_at, drop-drop, take-set-le, length-take-le}
-use Rattle.writing.specs.Decimal.{digit_of, last_digits, written}
-use Rattle.writing.proofs.DecimalLaws.{last_length}
+use lib.ListN.{length, take, drop, set, length-append, length-take, length-drop, take-append-drop}
+use Rattle.std.proofs.lemmas.List.{drop-set}
+use lib.Seq.{drop-length, set_split, drop_at, take_at, drop-drop}
+use Rattle.writing.specs.Decimal.{digit_of, last_digits, count_text, written}
+use Rattle.writing.proofs.DecimalLaws.{count_is_last}
 
 -- ════ of `written`
 pub written_one : (o : List ℕ) (at b : ℕ) → at + 1 ≤ length o → set o at b ≡ written o at (b ∷ [])
@@ -36,36 +37,13 @@ written_then o xs ys at h =
     rw (e, ← append_assoc (take at o) xs (drop m o), take_at p (drop m o) m n, ← drop-drop (length ys) m (p ++ drop m o), drop_at p (drop m o) m n, drop-drop)
     (simp append_assoc)
 
--- the text with one byte more, which is written first
-written_before : (o xs : List ℕ) (at b j : ℕ) → length xs ≡ j → at + j < length o → written (set o (at + j) b) at xs ≡ written o at (xs ++ (b ∷ []))
-unfolding written
-written_before o xs at b j e h =
-    let n = length-take-le (at + j) o (omega arith) in
-    let l : at ≤ at + j = omega arith in
-    let m : at + length (xs ++ (b ∷ [])) ≡ suc (at + j) = simp length-append (omega arith) in
-    rw (m, e, take-set-le, set_split, drop_at (take (at + j) o) (b ∷ drop (suc (at + j)) o) (at + j) n) (simp append_assoc)
-
 -- ════ spelling
--- what stands once the digits from i on are written: the last i of rest, written in front of them, end it
-pub record Spelt (n k at : ℕ) (o out : List ℕ) (i rest : ℕ) : Type 0 where
-  pub low : i ≤ k
-  pub room : at + k ≤ length o
-  pub long : length out ≡ length o
-  pub ends : written out at (last_digits i rest) ≡ written o at (last_digits k n)
+pub spelt_start : (n : ℕ) (out : List ℕ) → length out ≡ length (count_text n) → last_digits (length out) n ++ drop (length out) out ≡ count_text n
+spelt_start n out e = rw (drop-length, append-nil, e) (count_is_last n)
 
-pub spelt_more : {n k at rest : ℕ} {o out : List ℕ} (i : ℕ) → 0 < i
-    → Spelt n k at o out i rest → Spelt n k at o (set out (at + (i - 1)) (digit_of rest)) (i - 1) (rest / 10)
+-- a digit in front of those that stand, which ends the digits that are left
+pub spelt_more : (i rest : ℕ) (out : List ℕ) → 0 < i → i ≤ length out
+    → last_digits (i - 1) (rest / 10) ++ drop (i - 1) (set out (i - 1) (digit_of rest)) ≡ last_digits i rest ++ drop i out
 unfolding last_digits
-spelt_more zero h s = absurd (omega (arith, h))
-spelt_more {at = at} {rest} {out = out} (suc j) h s =
-    let e = last_length j (rest / 10) in
-    rw sub-one (record {
-      low = omega arith;
-      room = s.room;
-      long = length-set out (at + j) (digit_of rest) ∙ s.long;
-      ends = written_before out (last_digits j (rest / 10)) at (digit_of rest) j e (omega arith) ∙ s.ends;
-    })
-
-pub spelt_end : {n k at i rest : ℕ} {o out : List ℕ} → Spelt n k at o out i rest → i ≤ 0 → out ≡ written o at (last_digits k n)
-unfolding last_digits
-spelt_end {i = i} s h = let e : i ≡ 0 = omega arith in written_none _ _ ∙ rw e at s.ends
+spelt_more zero rest out h l = absurd (omega (arith, h))
+spelt_more (suc j) rest out h l = rw (sub-one, drop-set out j (digit_of rest), add-one) (simp append_assoc)

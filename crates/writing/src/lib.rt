@@ -1,123 +1,9 @@
-// Numbers as text, written into a buffer.
+// Numbers as text, put on a page: lent bytes and the place in them.
 #![tactic(auto)]
 
 ghost use Rattle.std.specs.Prelude.{◌≡◌, ◌+◌, ◌*◌, ◌≤◌, ◌∷◌, [], nat_abs, length, take};
 ghost use Rattle.writing.specs.Page.{Put, Room};
-ghost use Rattle.writing.specs.Decimal.{last_digits, count_text, text_of, line_text, bad_text, written};
-
-// How many digits n has.
-fn places(n: u64) -> usize
-    ensures { result ≡ length (count_text n) }
-{
-    let mut k: usize = 1;
-    let mut rest = n;
-    while 10 <= rest {
-        rest /= 10;
-        k += 1;
-    }
-    k
-}
-
-// The last k digits of n at a place, from the last one up: so they need no copy.
-fn spell(n: u64, k: usize, out: &mut [u8], at: usize)
-    requires { at + k ≤ length out.old }
-    ensures { out.new ≡ written out.old at (last_digits k n) }
-{
-    let mut i = k;
-    let mut rest = n;
-    while 0 < i {
-        i -= 1;
-        out[at + i] = 48 + (rest % 10) as u8;
-        rest /= 10;
-    }
-}
-
-fn put_digits(n: u64, out: &mut [u8], at: usize) -> usize
-    requires { at + length (count_text n) ≤ length out.old }
-    ensures { (result ≡ at + length (count_text n)) × (out.new ≡ written out.old at (count_text n)) }
-{
-    let k = places(n);
-    spell(n, k, out, at);
-    at + k
-}
-
-// One byte at a place; answers the place after it, as the next two do.
-pub fn put_byte(b: u8, out: &mut [u8], at: usize) -> usize
-    requires { at + 1 ≤ length out.old }
-    ensures { (result ≡ at + 1) × (out.new ≡ written out.old at (b ∷ [])) }
-{
-    out[at] = b;
-    at + 1
-}
-
-// A count as text, for which there is room whatever it is.
-pub fn put_count(count: u64, out: &mut [u8], at: usize) -> usize
-    requires { at + 20 ≤ length out.old }
-    ensures { (result ≡ at + length (count_text count)) × (out.new ≡ written out.old at (count_text count)) × (result ≤ at + 20) }
-{
-    put_digits(count, out, at)
-}
-
-// A number without its sign, taken in 64 bits, where that of the least number fits.
-pub fn size(v: i32) -> u64
-    ensures { result ≡ nat_abs v }
-{
-    let z = v as i64;
-    if z < 0 { (-z) as u64 } else { z as u64 }
-}
-
-// A number as text, for which there is room whatever it is.
-fn put(v: i32, out: &mut [u8], at: usize) -> usize
-    requires { at + 11 ≤ length out.old }
-    ensures { (result ≡ at + length (text_of v)) × (out.new ≡ written out.old at (text_of v)) }
-{
-    let n = size(v);
-    if v < 0 {
-        let first = put_byte(45, out, at);
-        put_digits(n, out, first)
-    } else {
-        put_digits(n, out, at)
-    }
-}
-
-// The first k numbers as a line. Twelve places for each are room whatever they are.
-pub fn put_line(numbers: &[i32], k: usize, out: &mut [u8], at: usize) -> usize
-    requires { (1 ≤ k) × (k ≤ length numbers.now) × (at + 12 * k ≤ length out.old) }
-    ensures { (result ≡ at + length (line_text (take k numbers.now)))
-        × (out.new ≡ written out.old at (line_text (take k numbers.now))) × (result ≤ at + 12 * k) }
-{
-    let mut place = put(numbers[0], out, at);
-    let mut i = 1;
-    while i < k {
-        place = put_byte(32, out, place);
-        place = put(numbers[i], out, place);
-        i += 1;
-    }
-    put_byte(10, out, place)
-}
-
-// Bytes at a place; answers the place after them.
-pub fn put_text(bytes: &[u8], out: &mut [u8], at: usize) -> usize
-    requires { at + length bytes.now ≤ length out.old }
-    ensures { (result ≡ at + length bytes.now) × (out.new ≡ written out.old at bytes.now) }
-{
-    let mut i = 0;
-    while i < bytes.len() {
-        out[at + i] = bytes[i];
-        i += 1;
-    }
-    at + i
-}
-
-// What a refused line is answered, for which there is room whatever its number is.
-pub fn put_bad(number: u64, out: &mut [u8], at: usize) -> usize
-    requires { at + 25 ≤ length out.old }
-    ensures { (result ≡ at + length (bad_text number)) × (out.new ≡ written out.old at (bad_text number)) × (result ≤ at + 25) }
-{
-    let a = put_text(b"bad ", out, at);
-    let b = put_count(number, out, a);
-    put_byte(b'\n', out, b)
-}
+ghost use Rattle.writing.specs.Decimal.{count_text, text_of, line_text, bad_text, written};
 
 // A place in lent bytes: what is put on it is written there, and the place moves behind it.
 #[derive(Drop)]
@@ -150,6 +36,7 @@ impl<'a> Page<'a> {
         self.at += 1;
     }
 
+    #[tactic(auto, using(crate::proofs::PageLaws::puts, crate::proofs::PageLaws::copied))]
     pub fn put_text(&mut self, bytes: &[u8])
         requires { Room self.old (length bytes.now) }
         ensures { Put self.old self.new bytes.now }
@@ -159,12 +46,36 @@ impl<'a> Page<'a> {
         self.at = end;
     }
 
+    #[tactic(auto, using(crate::proofs::PageLaws::puts, crate::proofs::PageLaws::copied))]
+    fn put_digits(&mut self, n: u64)
+        requires { Room self.old (length (count_text n)) }
+        ensures { Put self.old self.new (count_text n) }
+    {
+        let k = places(n);
+        spell(n, &mut self.out[self.at..self.at + k]);
+        self.at += k;
+    }
+
+    // A count, for which there is room whatever it is.
+    #[tactic(auto, using(crate::proofs::DecimalLaws::count_length))]
     pub fn put_count(&mut self, count: u64)
         requires { Room self.old 20 }
         ensures put { Put self.old self.new (count_text count) }
         ensures bound { self.new.at ≤ self.old.at + 20 }
     {
-        self.at = put_count(count, self.out, self.at);
+        self.put_digits(count);
+    }
+
+    // A number, for which there is room whatever it is.
+    pub fn put_number(&mut self, v: i32)
+        requires { Room self.old 11 }
+        ensures put { Put self.old self.new (text_of v) }
+        ensures bound { self.new.at ≤ self.old.at + 11 }
+    {
+        if v < 0 {
+            self.put_byte(b'-');
+        }
+        self.put_digits(u64::from(v.unsigned_abs()));
     }
 
     // Numbers as a line. Twelve places for each are room whatever they are.
@@ -173,9 +84,15 @@ impl<'a> Page<'a> {
         ensures put { Put self.old self.new (line_text numbers.now) }
         ensures bound { self.new.at ≤ self.old.at + 12 * length numbers.now }
     {
-        self.at = put_line(numbers, numbers.len(), self.out, self.at);
+        self.put_number(numbers[0]);
+        for &v in &numbers[1..] {
+            self.put_byte(b' ');
+            self.put_number(v);
+        }
+        self.put_byte(b'\n');
     }
 
+    // What a refused line is answered, for which there is room whatever its number is.
     pub fn put_bad(&mut self, number: u64)
         requires { Room self.old 25 }
         ensures put { Put self.old self.new (bad_text number) }
@@ -183,6 +100,85 @@ impl<'a> Page<'a> {
     {
         self.put_text(b"bad ");
         self.put_count(number);
-        self.put_byte(b'\n');
+        self.put_text(b"\n");
     }
+}
+
+// How many digits n has: one more than the power of ten that it reaches, and 0 has as many as 1.
+#[tactic(auto, using(crate::proofs::DecimalLaws::digits_of_power))]
+fn places(n: u64) -> usize
+    ensures { result ≡ length (count_text n) }
+{
+    n.max(1).ilog10() as usize + 1
+}
+
+// The digits of n where there are as many places: from the last one up, so they need no copy. By place, since a proof knows nothing of
+// what `iter_mut().rev()` leaves.
+fn spell(n: u64, out: &mut [u8])
+    requires { length out.old ≡ length (count_text n) }
+    ensures { out.new ≡ count_text n }
+{
+    let mut rest = n;
+    for i in (0..out.len()).rev() {
+        out[i] = b'0' + (rest % 10) as u8;
+        rest /= 10;
+    }
+}
+
+// One byte at a place; answers the place after it, as the next two do.
+pub fn put_byte(b: u8, out: &mut [u8], at: usize) -> usize
+    requires { at + 1 ≤ length out.old }
+    ensures { (result ≡ at + 1) × (out.new ≡ written out.old at (b ∷ [])) }
+{
+    let mut page = Page::new(out, at);
+    page.put_byte(b);
+    page.place()
+}
+
+// A count as text, for which there is room whatever it is.
+pub fn put_count(count: u64, out: &mut [u8], at: usize) -> usize
+    requires { at + 20 ≤ length out.old }
+    ensures { (result ≡ at + length (count_text count)) × (out.new ≡ written out.old at (count_text count)) × (result ≤ at + 20) }
+{
+    let mut page = Page::new(out, at);
+    page.put_count(count);
+    page.place()
+}
+
+// A number without its sign.
+pub fn size(v: i32) -> u64
+    ensures { result ≡ nat_abs v }
+{
+    u64::from(v.unsigned_abs())
+}
+
+// The first k numbers as a line. Twelve places for each are room whatever they are.
+pub fn put_line(numbers: &[i32], k: usize, out: &mut [u8], at: usize) -> usize
+    requires { (1 ≤ k) × (k ≤ length numbers.now) × (at + 12 * k ≤ length out.old) }
+    ensures { (result ≡ at + length (line_text (take k numbers.now)))
+        × (out.new ≡ written out.old at (line_text (take k numbers.now))) × (result ≤ at + 12 * k) }
+{
+    let mut page = Page::new(out, at);
+    page.put_line(&numbers[..k]);
+    page.place()
+}
+
+// Bytes at a place; answers the place after them.
+pub fn put_text(bytes: &[u8], out: &mut [u8], at: usize) -> usize
+    requires { at + length bytes.now ≤ length out.old }
+    ensures { (result ≡ at + length bytes.now) × (out.new ≡ written out.old at bytes.now) }
+{
+    let mut page = Page::new(out, at);
+    page.put_text(bytes);
+    page.place()
+}
+
+// What a refused line is answered, for which there is room whatever its number is.
+pub fn put_bad(number: u64, out: &mut [u8], at: usize) -> usize
+    requires { at + 25 ≤ length out.old }
+    ensures { (result ≡ at + length (bad_text number)) × (out.new ≡ written out.old at (bad_text number)) × (result ≤ at + 25) }
+{
+    let mut page = Page::new(out, at);
+    page.put_bad(number);
+    page.place()
 }

@@ -1,15 +1,16 @@
--- `writing::spell` meets its contract. The measure is how many digits are left.
+-- `writing::spell` meets its contract.
 -- Assumes nothing.
-use native.Mathlib.Omega.{arith}
-use mathlib.Core.Path.{refl}
-use Rattle.writing.proofs.Written.{spelt_more, spelt_end}
+use Rattle.std.proofs.Common.{◌≡◌, arith}
+use Rattle.writing.proofs.Written.{spelt_start, spelt_more}
+use Rattle.writing.specs.Decimal.{last_digits}
 use Rattle.writing.proofs.spell.Goals as goal
 
 pub loop-i-init : goal.loop-i-init
-loop-i-init c = record { low = omega arith; room = c.requires; long = refl; ends = refl }
+loop-i-init c = spelt_start c.args.n c.args.out.now c.requires
 
 pub loop-i-preserved : goal.loop-i-preserved
-loop-i-preserved c = let k = c.before.loop-i in spelt_more k.i c.loop-i-test.true k.invariant
+loop-i-preserved c = let e = spelt_more c.loop-i.i c.loop-i.rest c.loop-i.out c.loop-i-test.true (omega arith) in cc c.loop-i.invariant
 
 pub returns : goal.returns
-returns c = spelt_end c.before.loop-i.invariant c.loop-i-test.false
+unfolding last_digits
+returns c = let e : c.loop-i.i ≡ 0 = omega arith in rw e at c.loop-i.invariant

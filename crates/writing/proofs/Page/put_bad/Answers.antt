@@ -6,4 +6,4 @@ use Rattle.writing.proofs.Page.put_bad.Goals as goal
 
 pub returns-clause-put : goal.returns-clause-put
 unfolding bad_text
-returns-clause-put c = then (then c.put_text.ensures c.put_count.ensures.put) c.put_byte.ensures
+returns-clause-put c = then (then c.put_text.ensures c.put_count.ensures.put) c.put_text-2.ensures
