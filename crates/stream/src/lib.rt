@@ -6,9 +6,11 @@ ghost use Rattle.writing.specs.Page.{Put, Room};
 ghost use Rattle.drive_record.specs.Record.{sound as sound_of};
 ghost use Rattle.feeding.specs.Lines.{one_more};
 ghost use Rattle.stream.specs.Program.{header_text, tally_of, answer_text, totals_text};
+ghost use Rattle.stream.specs.Feeds.{FedRows, rows_laws};
 ghost use Rattle.stream.specs.Streaming.{as_fed, stream_start, rows_fed, rows_text, last_text};
 
 use drive_record::Drive;
+use feeding::Feed;
 use text::Line;
 use writing::Page;
 
@@ -118,6 +120,26 @@ pub fn fed(page: &mut Page, s: Stream, chunk: &[u8]) -> Stream
         }
     }
     now
+}
+
+impl Feed for Stream {
+    ghost room = { 48 };
+
+    ghost can_feed = { λ s. sound_of s.tally.drive ≡ true };
+
+    ghost feeds = { FedRows };
+
+    ghost over = { λ s. s.stopped };
+
+    ghost laws = { rows_laws };
+
+    fn fed(self, page: &mut Page, chunk: &[u8]) -> Stream {
+        fed(page, self, chunk)
+    }
+
+    fn is_over(&self) -> bool {
+        self.stopped
+    }
 }
 
 fn put_totals(page: &mut Page, accepted: u64, clipped: u64)
