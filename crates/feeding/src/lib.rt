@@ -1,11 +1,14 @@
 // Lines that are fed in chunks of any size: a line's bytes go to it as they come, whole or not.
 #![tactic(auto)]
 
-ghost use Rattle.std.specs.Prelude.{◌≡◌, ◌≤◌, ◌<◌, length};
+ghost use Rattle.std.specs.Prelude.{◌≡◌, ◌*◌, ◌≤◌, ◌<◌, ℕ, Bool, List, length};
+ghost use Rattle.writing.specs.Page.{Put, Room};
 ghost use Rattle.feeding.specs.Lines.{one_more};
 ghost use Rattle.feeding.specs.Feeding.{part_of};
+ghost use Rattle.feeding.specs.Feeds.{FeedLaws};
 
 use text::Line;
+use writing::Page;
 
 // Bytes went to a line: the line after them, the bytes behind them, and whether they ended it.
 #[derive(Clone, Copy)]
@@ -45,4 +48,29 @@ pub fn next(count: u64) -> u64
     ensures { result ≡ one_more count }
 {
     count.saturating_add(1)
+}
+
+// What is fed an input chunk by chunk, and puts what it answers on a page.
+pub trait Feed: Copy {
+    // The most bytes that it answers a byte.
+    ghost room: { ℕ };
+
+    ghost can_feed: { Self → Type 0 };
+
+    // Fed with bytes it becomes another, and answers a text.
+    ghost feeds: { Self → List ℕ → Self → List ℕ → Type 0 };
+
+    ghost over: { Self → Bool };
+
+    // What each `impl` must prove.
+    ghost laws: { FeedLaws feeds };
+
+    fn fed(self, page: &mut Page, chunk: &[u8]) -> Self
+        requires { can_feed self × Room page.old (room * length chunk.now) }
+        ensures can { can_feed result }
+        ensures put { (text : List ℕ) × feeds self chunk.now result text × Put page.old page.new text };
+
+    // Whether nothing that may still come is looked at.
+    fn is_over(&self) -> bool
+        ensures { result ≡ over self.now };
 }

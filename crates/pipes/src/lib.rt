@@ -3,90 +3,104 @@
 // input, output and error say nothing of theirs.
 #![tactic(auto)]
 
-ghost use Rattle.std.specs.Prelude.{◌≡◌, ◌<◌, ◌≤◌, true, false, length, take};
-ghost use Rattle.std.specs.Io.KnownBytes.{Appends, Consumes, IsAtEnd};
+ghost use Rattle.std.specs.Prelude.{◌≡◌, ◌<◌, ◌≤◌, ◌*◌, ◌++◌, Ok, length, take, IfOk, OnOk, IfErr};
+ghost use Rattle.std.specs.Io.KnownBytes.{Appends, Consumes, Keeps, IsAtEnd};
 ghost use Rattle.pipes.specs.Counts.{AppendsFront, AppendsLess, IsPrefixLen};
+ghost use Rattle.pipes.specs.Through.{Through};
+ghost use Rattle.pipes.specs.Words.{words_of};
 
+use feeding::Feed;
 use std::io::{Read, Write};
+use writing::Page;
 
-// What a read brought: so many bytes, none of them at the end of the input; or that it failed, and then none.
-#[derive(Clone, Copy)]
-pub struct Got {
-    pub size: usize,
-    pub failed: bool,
+// What failed: a read or a write.
+#[derive(Clone, Copy, Debug, PartialEq, Eq)]
+pub enum Trouble {
+    Unread,
+    Unsent,
 }
 
-// One read. A read that a signal interrupts before it brings a byte counts as one that failed.
-pub fn receive<R: Read>(from: &mut R, bytes: &mut [u8]) -> Got
-    ensures size { IsPrefixLen result.size bytes.new }
-    ensures read { Consumes (R.remaining from.old) (R.remaining from.new) (take result.size bytes.new) }
-    ensures end { result.failed ≡ false → result.size ≡ 0 → 0 < length bytes.new → IsAtEnd (R.remaining from.new) }
-    ensures none { result.failed ≡ true → result.size ≡ 0 }
+impl Trouble {
+    // What is said of it behind a program's name.
+    pub fn words(self) -> &'static [u8]
+        ensures { result.now ≡ words_of self }
+    {
+        match self {
+            Trouble::Unread => b": standard input cannot be read\n",
+            Trouble::Unsent => b": standard output cannot be written\n",
+        }
+    }
+}
+
+// One read: how many bytes it brought, none of them at the end of the input. A read that a signal interrupts before it brings a byte counts as one that failed.
+pub fn receive<R: Read>(from: &mut R, bytes: &mut [u8]) -> Result<usize, Trouble>
+    ensures size { IfOk result (λ n. IsPrefixLen n bytes.new) }
+    ensures read { IfOk result (λ n. Consumes (R.remaining from.old) (R.remaining from.new) (take n bytes.new)) }
+    ensures end { result ≡ Ok 0 → 0 < length bytes.new → IsAtEnd (R.remaining from.new) }
+    ensures none { IfErr result (λ why. (why ≡ Trouble.Unread) × Keeps (R.remaining from.old) (R.remaining from.new)) }
 {
     match from.read(bytes) {
-        Ok(size) => Got {
-            size: size,
-            failed: false,
-        },
-        Err(_) => Got {
-            size: 0,
-            failed: true,
-        },
+        Ok(size) => Ok(size),
+        Err(_) => Err(Trouble::Unread),
     }
 }
 
-// All of the bytes, in as many writes as it takes, and whether they went through; it stops at the first write that takes nothing or fails.
-fn write_all<W: Write>(to: &mut W, bytes: &[u8]) -> bool
-    ensures all { result ≡ true → Appends (W.contents to.old) (W.contents to.new) bytes.now }
-    ensures less { result ≡ false → AppendsLess (W.contents to.old) (W.contents to.new) bytes.now (length bytes.now) }
+// All of the bytes, in as many writes as it takes; it stops at the first write that takes nothing or fails, and then fewer were taken.
+// A loop of its own, since std's `write_all` says nothing of what was taken before it failed (`less`).
+pub fn send<W: Write>(to: &mut W, bytes: &[u8]) -> Result<(), Trouble>
+    ensures all { OnOk result (Appends (W.contents to.old) (W.contents to.new) bytes.now) }
+    ensures less { IfErr result (λ why. (why ≡ Trouble.Unsent)
+        × AppendsLess (W.contents to.old) (W.contents to.new) bytes.now (length bytes.now)) }
     ensures part { AppendsFront (W.contents to.old) (W.contents to.new) bytes.now (length bytes.now) }
 {
-    let mut done = 0;
-    while done < bytes.len() {
-        let Ok(taken) = to.write(&bytes[done..]) else {
-            return false;
+    let mut rest = bytes;
+    while !rest.is_empty() {
+        let Ok(taken) = to.write(rest) else {
+            return Err(Trouble::Unsent);
         };
         if taken == 0 {
-            return false;
+            return Err(Trouble::Unsent);
         }
-        done += taken;
+        rest = &rest[taken..];
     }
-    true
+    Ok(())
 }
 
-fn hand<W: Write>(to: &mut W, bytes: &[u8], place: usize) -> bool
-    requires { place ≤ length bytes.now }
-    ensures all { result ≡ true → Appends (W.contents to.old) (W.contents to.new) (take place bytes.now) }
-    ensures less { result ≡ false → AppendsLess (W.contents to.old) (W.contents to.new) bytes.now place }
-    ensures part { AppendsFront (W.contents to.old) (W.contents to.new) bytes.now place }
+// Chunk by chunk what is read is fed, and what it is answered is sent, until the input is over or nothing more is looked at.
+// A proved loop has to end, and nothing says that the input does: so the reads are counted, up to a number that no run uses up.
+pub fn feed_through<R: Read, W: Write, F: Feed>(
+    from: &mut R,
+    to: &mut W,
+    first: F,
+    bytes: &mut [u8],
+    out: &mut [u8],
+) -> Result<F, Trouble>
+    requires { F.can_feed first × (0 < length bytes.old) × (F.room * length bytes.old ≤ length out.old) }
+    ensures { IfOk result (λ last. Through F.feeds F.over first last (R.remaining from.old) (R.remaining from.new) (W.contents to.old) (W.contents to.new)) }
 {
-    write_all(to, &bytes[..place])
+    let mut s = first;
+    for turns in 0..u64::MAX {
+        let size = receive(from, bytes)?;
+        if size == 0 {
+            return Ok(s);
+        }
+        let mut page = Page::new(out, 0);
+        s = s.fed(&mut page, &bytes[..size]);
+        let place = page.place();
+        send(to, &out[..place])?;
+        if s.is_over() {
+            return Ok(s);
+        }
+    }
+    Ok(s)
 }
 
-// The first so many bytes, and whether all of them were taken: where not, fewer were.
-pub fn send<W: Write>(to: &mut W, out: &[u8], place: usize) -> bool
-    requires { place ≤ length out.now }
-    ensures all { result ≡ true → Appends (W.contents to.old) (W.contents to.new) (take place out.now) }
-    ensures less { result ≡ false → AppendsLess (W.contents to.old) (W.contents to.new) out.now place }
-    ensures part { AppendsFront (W.contents to.old) (W.contents to.new) out.now place }
+// Words for whoever started the program, on standard error: the program's name and what is said behind it.
+#[tactic(auto, using(crate::proofs::Fronts::front_first))]
+pub fn tell<W: Write>(to: &mut W, program: &[u8], words: &[u8]) -> Result<(), Trouble>
+    ensures all { OnOk result (Appends (W.contents to.old) (W.contents to.new) (program.now ++ words.now)) }
+    ensures part { AppendsFront (W.contents to.old) (W.contents to.new) (program.now ++ words.now) (length (program.now ++ words.now)) }
 {
-    hand(to, out, place)
-}
-
-// Words for whoever started the program, on standard error. Where they too cannot be written there is nobody left to tell.
-pub fn tell<W: Write>(to: &mut W, words: &[u8], place: usize)
-    requires { place ≤ length words.now }
-    ensures { AppendsFront (W.contents to.old) (W.contents to.new) words.now place }
-{
-    hand(to, words, place);
-}
-
-pub fn unread<W: Write>(to: &mut W, program: &[u8]) {
-    write_all(to, program);
-    write_all(to, b": standard input cannot be read\n");
-}
-
-pub fn unsent<W: Write>(to: &mut W, program: &[u8]) {
-    write_all(to, program);
-    write_all(to, b": standard output cannot be written\n");
+    send(to, program)?;
+    send(to, words)
 }

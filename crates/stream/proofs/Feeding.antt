@@ -8,7 +8,7 @@ use native.Mathlib.Omega.{arith}
 use borrow.Author.Tests.{eqb-true}
 use lib.Dec.{eqb}
 use lib.IntN.{ℤ}
-use lib.ListN.{length, take, drop}
+use lib.ListN.{length, take}
 use lib.Seq.{take_all, length-take-le}
 use Rattle.fixed.proofs.HeldLaws.{and_right}
 use Rattle.drive_record.specs.Record.{sound}
@@ -16,8 +16,8 @@ use Rattle.drive_record.proofs.Ranges.{Sound, sound←}
 use Rattle.rows.proofs.Runs.{row_sound}
 use Rattle.text.specs.declared.Line.{Line}
 use Rattle.text.specs.Automaton.{line_start}
-use Rattle.writing.specs.Decimal.{written}
-use Rattle.writing.proofs.TextLaws.{put}
+use Rattle.writing.specs.declared.Page.{Page}
+use Rattle.writing.specs.Page.{Put, Room}
 use Rattle.feeding.specs.Feeding.{Part, part_of, Fed, line_due, is_good}
 use Rattle.feeding.proofs.Parts.{part_length}
 use Rattle.feeding.proofs.Upto.{good_test, Upto, upto_start, upto_good, upto_else, upto_past}
@@ -32,41 +32,46 @@ row_test : (ns : List ℤ) (n : ℕ) → n ≤ length ns → is_row (take n ns) 
 unfolding is_row
 row_test ns n h = ap (λ (k : ℕ). eqb k 3) (length-take-le n ns h)
 
--- ════ what stands once i bytes of the chunk are fed
-pub record Telling (s : Stream) (chunk : List ℕ) (at : ℕ) (o out : List ℕ) (cur : Stream) (place i : ℕ) : Type 0 where
+-- ════ what stands while rest is left of the chunk
+pub record Telling (s : Stream) (chunk : List ℕ) (first page : Page) (cur : Stream) (rest : List ℕ) : Type 0 where
   pub is_sound : Sound cur.tally.drive
   pub wide : length cur.row ≡ 3
-  pub upto : Upto is_row tally_of (as_fed s) chunk (as_fed cur) i
-  pub wrote : Wrote is_row tally_of answer_text 48 (as_fed s) chunk at o out (as_fed cur) place i
+  pub upto : Upto is_row tally_of (as_fed s) chunk (as_fed cur) rest
+  pub wrote : Wrote is_row tally_of answer_text 48 (as_fed s) chunk first page (as_fed cur) rest
 
-pub telling_start : (s : Stream) (chunk : List ℕ) (at : ℕ) (o : List ℕ)
-    → Sound s.tally.drive → length s.row ≡ 3 → at + 48 * length chunk ≤ length o → Telling s chunk at o o s at 0
-telling_start s chunk at o h w r =
+pub telling_start : (s : Stream) (chunk : List ℕ) (page : Page)
+    → Sound s.tally.drive → length s.row ≡ 3 → Room page (48 * length chunk) → Telling s chunk page page s chunk
+telling_start s chunk page h w r =
     record {
       is_sound = h;
       wide = w;
       upto = upto_start is_row tally_of (as_fed s) chunk;
-      wrote = wrote_start is_row tally_of answer_text
-          (as_fed s) chunk at o r;
+      wrote = wrote_start is_row tally_of answer_text (as_fed s) chunk page r;
     }
 
--- the bytes up to the place j went to the line, which is l with the numbers ns after them
-module _ {s : Stream} {chunk : List ℕ} {at : ℕ} {o out : List ℕ} {cur : Stream} {place i j : ℕ} {l : Line} {ns : List ℤ} {ended : Bool}
-    (u : Telling s chunk at o out cur place i) (h : i < length chunk) (g : cur.stopped ≡ false) (k : i < j) (m : j ≤ length chunk)
-    (e : part_of (as_fed cur).reading (drop i chunk) ≡ record { reading = record { line = l; numbers = ns }; ended = ended; behind = drop j chunk }) where
+-- there is room for one row's answer
+pub row_room : {s : Stream} {chunk : List ℕ} {first page : Page} {cur : Stream} {rest : List ℕ}
+    → Telling s chunk first page cur rest → 0 < length rest → Room page 48
+row_room u h = omega (arith, u.wrote.room, h)
+
+-- a part of the rest went to the line, which is l with the numbers ns after it
+module _ {s : Stream} {chunk : List ℕ} {first page : Page} {cur : Stream} {rest behind : List ℕ} {l : Line} {ns : List ℤ} {ended : Bool}
+    (u : Telling s chunk first page cur rest) (h : 0 < length rest) (g : cur.stopped ≡ false)
+    (e : part_of (as_fed cur).reading rest ≡ record { reading = record { line = l; numbers = ns }; ended = ended; behind = behind })
+    (k : length behind < length rest) where
   part_wide : length ns ≡ 3
-  part_wide = ap (λ (p : Part). length p.reading.numbers) (sym e) ∙ part_length (as_fed cur).reading (drop i chunk) ∙ u.wide
+  part_wide = ap (λ (p : Part). length p.reading.numbers) (sym e) ∙ part_length (as_fed cur).reading rest ∙ u.wide
 
   is_good_lem : ended && is_good is_row (record { line = l; numbers = ns }) ≡ ended && (not l.bad && eqb l.count 3)
-  is_good_lem = good_test is_row (as_fed cur).reading (drop i chunk) e (row_test ns l.count)
+  is_good_lem = good_test is_row (as_fed cur).reading rest e (row_test ns l.count)
 
-  -- they end a row, which is told
-  pub telling_row : {t : Tally} {start : Line} {next : List ℕ} {end : ℕ}
+  -- it ends a row, which is told
+  pub telling_row : {t : Tally} {start : Line} {next : Page}
       → ended && (not l.bad && eqb l.count 3) ≡ true → t ≡ tally_of cur.tally ns → start ≡ line_start →
-      end ≡ place + length (answer_text cur.tally ns) → next ≡ written out place (answer_text cur.tally ns) → end ≤ place + 48 →
-      Telling s chunk at o next (record { tally = t; line = start; row = ns; begun = false; stopped = cur.stopped }) end j
+      Put page next (answer_text cur.tally ns) → next.at ≤ page.at + 48 →
+      Telling s chunk first next (record { tally = t; line = start; row = ns; begun = false; stopped = cur.stopped }) behind
   unfolding tally_of
-  telling_row {t} {start} {next} {end} y et es ep ew q =
+  telling_row {t} {start} {next} y et es put near =
       let b = is_good_lem ∙ y in
       let c = eqb-true l.count 3 (and_right (not l.bad) _ (and_right ended _ y)) in
       let n : take l.count ns ≡ ns = take_all l.count ns (omega (arith, part_wide, c)) in
@@ -75,33 +80,37 @@ module _ {s : Stream} {chunk : List ℕ} {at : ℕ} {o out : List ℕ} {cur : St
       record {
         is_sound = rw et (row_sound cur.tally.drive ns 0 u.is_sound);
         wide = part_wide;
-        upto = subst (λ (x : Fed Tally). Upto is_row tally_of (as_fed s) chunk x j) f (upto_good is_row tally_of u.upto h g m e refl b);
+        upto = subst (λ (x : Fed Tally). Upto is_row tally_of (as_fed s) chunk x behind) f (upto_good is_row tally_of u.upto h g e b);
         wrote =
-            subst (λ (x : Fed Tally). Wrote is_row tally_of answer_text 48 (as_fed s) chunk at o next x end j) f
-            (wrote_good is_row tally_of answer_text u.wrote h g k m e refl b (rw n (put ep ew)) q);
+            subst (λ (x : Fed Tally). Wrote is_row tally_of answer_text 48 (as_fed s) chunk first next x behind) f
+            (wrote_good is_row tally_of answer_text u.wrote h g e k b (rw n put) near);
       }
 
-  -- they end none, or the line goes on
+  -- it ends none, or the line goes on
   pub telling_else : ended && (not l.bad && eqb l.count 3) ≡ false
-      → Telling s chunk at o out (record { tally = cur.tally; line = l; row = ns; begun = true; stopped = ended }) place j
+      → Telling s chunk first page (record { tally = cur.tally; line = l; row = ns; begun = true; stopped = ended }) behind
   telling_else y = record {
     is_sound = u.is_sound;
     wide = part_wide;
-    upto = upto_else is_row tally_of u.upto h g m e refl (is_good_lem ∙ y);
-    wrote = wrote_else is_row tally_of answer_text u.wrote h g k m e refl (is_good_lem ∙ y);
+    upto = upto_else is_row tally_of u.upto h g e (is_good_lem ∙ y);
+    wrote = wrote_else is_row tally_of answer_text u.wrote h g e k (is_good_lem ∙ y);
   }
 
 -- ════ the end: of the chunk, or at a bad line
-module _ {s : Stream} {chunk : List ℕ} {at : ℕ} {o out : List ℕ} {cur : Stream} {place i : ℕ} (u : Telling s chunk at o out cur place i) where
-  abbrev AllTold : Type 0
-  AllTold =
-      ((as_fed cur ≡ rows_fed (as_fed s) chunk) × (sound cur.tally.drive ≡ true))
-      × ((place ≡ at + length (rows_text (as_fed s) chunk)) × (out ≡ written o at (rows_text (as_fed s) chunk)) × (place ≤ at + 48 * length chunk))
+module _ {s : Stream} {chunk : List ℕ} {first page : Page} {cur : Stream} {rest : List ℕ} (u : Telling s chunk first page cur rest) where
+  abbrev pub AllTold : Type 0
+  AllTold = record {
+    stream_value : (as_fed cur ≡ rows_fed (as_fed s) chunk) × (sound cur.tally.drive ≡ true);
+    put : Put first page (rows_text (as_fed s) chunk);
+    bound : page.at ≤ first.at + 48 * length chunk;
+  }
 
-  pub telling_past : length chunk ≤ i → AllTold
+  pub telling_past : length rest ≡ 0 → AllTold
   telling_past h =
-      ((upto_past is_row tally_of u.upto h, sound← cur.tally.drive u.is_sound), wrote_past is_row tally_of answer_text u.wrote u.upto.low h)
+      let w = wrote_past is_row tally_of answer_text u.wrote h in
+      record { stream_value = (upto_past is_row tally_of u.upto h, sound← cur.tally.drive u.is_sound); put = w.0; bound = w.1 }
 
   pub telling_stopped : cur.stopped ≡ true → AllTold
   telling_stopped h =
-      ((upto_stopped is_row tally_of u.upto h, sound← cur.tally.drive u.is_sound), wrote_stopped is_row tally_of answer_text u.wrote u.upto.low h)
+      let w = wrote_stopped is_row tally_of answer_text u.wrote h in
+      record { stream_value = (upto_stopped is_row tally_of u.upto h, sound← cur.tally.drive u.is_sound); put = w.0; bound = w.1 }

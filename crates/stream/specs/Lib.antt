@@ -1,3 +1,4 @@
 pub mod Program
 pub mod Streaming
 pub mod Promised
+pub mod Feeds

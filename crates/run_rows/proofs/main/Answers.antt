@@ -5,5 +5,5 @@ use Rattle.drive_record.specs.Record.{sound}
 use Rattle.drive.proofs.Kept.{checked_sound}
 use Rattle.run_rows.proofs.main.Goals as goal
 
-pub run_through-t-requires : goal.run_through-t-requires
-run_through-t-requires c = (ap sound c.fresh-d.ensures ∙ checked_sound _ _ (sym c.in-Accepted.ensures), omega arith, omega arith, omega arith)
+pub run_through-requires : goal.run_through-requires
+run_through-requires c = (ap sound c.fresh-d.ensures ∙ checked_sound _ _ (sym c.in-Ok.ensures), omega arith, omega arith, omega arith)

@@ -1,65 +1,40 @@
--- `stream::fed` meets its contract. The measure is how many bytes are left.
+-- `stream::fed` meets its contract.
 -- Assumes nothing.
-use mathlib.Core.Path.{sym, ◌∙◌, ap}
-use mathlib.Core.Bool.{Bool, ◌&&◌}
-use native.Mathlib.Omega.{arith}
+use Rattle.std.proofs.Common.{◌≡◌, ◌<◌, true, false, ◌&&◌, not, eqb, length, arith}
+use Rattle.std.proofs.lemmas.Bool.Decides.{nat_tests}
 use Rattle.drive_record.proofs.Ranges.{sound→, sound←}
-use Rattle.stream.proofs.Feeding.{telling_start, telling_row, telling_else, telling_past, telling_stopped}
+use Rattle.stream.proofs.Feeding.{telling_start, row_room, telling_row, telling_else, telling_past, telling_stopped}
 use Rattle.stream.proofs.fed.Goals as goal
+use Rattle.stream.proofs.fed.Goals.{else-f-via-then-f+else-is_row, else-f-via-else-f}
 
 -- that the stream's row has three numbers is part of what an array is
-pub loop-i-init : goal.loop-i-init
-loop-i-init c =
-    let w = c.well_formed.0.1.1.1.1.0.1.0.1 in
-    telling_start c.args.s c.args.chunk.now c.args.at c.args.out.now (sound→ c.args.s.tally.drive c.requires.0) w c.requires.1
+pub loop-rest-init : goal.loop-rest-init
+loop-rest-init c = telling_start c.args.s c.args.chunk.now c.args.page.now (sound→ c.args.s.tally.drive c.requires.0) (omega arith) c.requires.1
 
-pub row_told-t-requires : goal.row_told-t-requires
-row_told-t-requires c =
-    (sound← c.loop-i.tally.drive c.loop-i.invariant.is_sound, omega (arith, c.line_fed-f.ensures.place_in_bounds))
+pub row_told-now-requires : goal.row_told-now-requires
+row_told-now-requires c =
+    (sound← c.loop-rest.now.tally.drive c.loop-rest.invariant.is_sound, row_room c.loop-rest.invariant (grind (arith, nat_tests)))
 
 -- the two ways through a turn: a row, or bytes that end none
-pub loop-i-preserved-then-f-is_row : goal.loop-i-preserved-then-f-is_row
-loop-i-preserved-then-f-is_row c =
-    let e = c.line_fed-f.ensures.place_in_bounds in
-    telling_row c.loop-i.invariant c.loop-i-test.true
-    c.if-not-stopped.true (e.1 c.loop-i-test.true) e.0 c.line_fed-f.ensures.chunk_value
-    (ap (λ (b : Bool). c.line_fed-f.result.ended && b) (sym c.is_row.ensures) ∙ c.if-f-is_row.true)
-    c.row_told-t.ensures.0 c.line_start-line.ensures c.row_told-t.ensures.1 c.row_told-t.ensures.2 c.row_told-t.ensures.3
+pub loop-rest-preserved-then-is_row : goal.loop-rest-preserved-then-is_row
+loop-rest-preserved-then-is_row c =
+    let l = c.line_fed-f.result.line in
+    let row : c.line_fed-f.result.ended && (not l.bad && eqb l.count 3) ≡ true = cc in
+    let h : 0 < length c.loop-rest.rest.now = grind (arith, nat_tests) in
+    telling_row c.loop-rest.invariant h c.if-not-now.true c.line_fed-f.ensures.chunk_value (c.line_fed-f.ensures.shorter.1 h) row
+    c.row_told-now.ensures.tally c.line_start-now.ensures c.row_told-now.ensures.put c.row_told-now.ensures.bound
 
-pub loop-i-preserved : goal.loop-i-preserved
-loop-i-preserved c =
-    let e = c.line_fed-f.ensures.place_in_bounds in
-    telling_else c.loop-i.invariant c.loop-i-test.true
-    c.if-not-stopped.true (e.1 c.loop-i-test.true) e.0 c.line_fed-f.ensures.chunk_value
-    (ap (λ (b : Bool). c.line_fed-f.result.ended && b) (sym c.is_row.ensures) ∙ c.if-f-is_row.false)
+pub loop-rest-preserved : goal.loop-rest-preserved
+loop-rest-preserved c =
+    let l = c.line_fed-f.result.line in
+    let row : c.line_fed-f.result.ended && (not l.bad && eqb l.count 3) ≡ false =
+    elim c.else-f.branch [ else-f-via-then-f+else-is_row w ↦ cc | else-f-via-else-f w ↦ rw w.if-f.false ] in
+    let h : 0 < length c.loop-rest.rest.now = grind (arith, nat_tests) in
+    telling_else c.loop-rest.invariant h c.if-not-now.true c.line_fed-f.ensures.chunk_value (c.line_fed-f.ensures.shorter.1 h) row
 
 -- the two ends: stopped, or past the last byte
-pub returns-else-not-stopped : goal.returns-else-not-stopped
-returns-else-not-stopped c =
-    let w = telling_stopped c.loop-i.invariant c.if-not-stopped.false in
-    record { stream_value = w.0; place_value = w.1 }
+pub returns-else-not-now : goal.returns-else-not-now
+returns-else-not-now c = telling_stopped c.loop-rest.invariant c.if-not-now.false
 
-pub returns-after-loop-i : goal.returns-after-loop-i
-returns-after-loop-i c =
-    let w = telling_past c.loop-i.invariant c.loop-i-test.false in
-    record { stream_value = w.0; place_value = w.1 }
-
-pub slice_bounds-line_fed-end : goal.slice_bounds-line_fed-end
-slice_bounds-line_fed-end c = sym c.loop-i.invariant.wide
-
-pub line_fed-f-requires : goal.line_fed-f-requires
-line_fed-f-requires c = c.loop-i.invariant.upto.low
-
-pub loop-i-smaller-then-f-is_row : goal.loop-i-smaller-then-f-is_row
-loop-i-smaller-then-f-is_row c =
-    omega (arith, c.line_fed-f.ensures.place_in_bounds.1 c.loop-i-test.true, c.line_fed-f.ensures.place_in_bounds.0)
-
-pub loop-i-smaller : goal.loop-i-smaller
-loop-i-smaller c =
-    omega (arith, c.line_fed-f.ensures.place_in_bounds.1 c.loop-i-test.true, c.line_fed-f.ensures.place_in_bounds.0)
-
-pub shape_of-out-else-not-stopped : goal.shape_of-out-else-not-stopped
-shape_of-out-else-not-stopped c = c.loop-i.invariant.wrote.long
-
-pub shape_of-out-after-loop-i : goal.shape_of-out-after-loop-i
-shape_of-out-after-loop-i c = c.loop-i.invariant.wrote.long
+pub returns-after-loop-rest : goal.returns-after-loop-rest
+returns-after-loop-rest c = telling_past c.loop-rest.invariant (grind (arith, nat_tests))

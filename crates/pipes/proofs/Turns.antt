@@ -1,0 +1,59 @@
+-- Turn after turn: what was read, what stands after it, and what was written of it.
+-- Assumes nothing.
+use Rattle.std.proofs.Common.{◌≡◌, ℕ, ◌+◌, ◌≤◌, ◌<◌, List, [], ◌++◌, length, subst, sym, ◌∙◌, arith, append-nil, length-append}
+use mathlib.Core.Bool.{true≢false}
+use Rattle.std.specs.Prelude.{Option, Bool, true, false}
+use Rattle.std.specs.Io.KnownBytes.{Appends, Consumes, IsAtEnd}
+use Rattle.std.proofs.KnownBytes.{Appends-nil, Appends-trans, Consumes-nil, Consumes-trans}
+use Rattle.feeding.specs.Feeds.{FeedLaws}
+use Rattle.pipes.specs.Through.{Through}
+
+module _ {S : Type 0} (feeds : S → List ℕ → S → List ℕ → Type 0) where
+  -- after turns that read a byte at least each
+  pub record Fed (first last : S) (f g v w : Option (List ℕ)) (turns : ℕ) : Type 0 where
+    pub eaten : List ℕ
+    pub text : List ℕ
+    pub read : Consumes f g eaten
+    pub fed : feeds first eaten last text
+    pub sent : Appends v w text
+    pub many : turns ≤ length eaten
+
+  module _ (laws : FeedLaws feeds) where
+    pub no_turn : (first : S) (f v : Option (List ℕ)) → Fed first first f f v v 0
+    no_turn first f v = record { eaten = []; text = []; read = Consumes-nil f; fed = laws.none first; sent = Appends-nil v; many = omega arith }
+
+    -- one turn more, which reads a chunk
+    pub turn_more : {first last : S} (next : S) {f g v w : Option (List ℕ)} (h x : Option (List ℕ)) {turns : ℕ} (t : Fed first last f g v w turns) (chunk text : List ℕ)
+        → 0 < length chunk → Consumes g h chunk → feeds last chunk next text → Appends w x text → Fed first next f h v x (turns + 1)
+    turn_more {first} {last} next {f} {g} {v} {w} h x t chunk text some read fed sent = record {
+      eaten = t.eaten ++ chunk;
+      text = t.text ++ text;
+      read = Consumes-trans f g h _ _ t.read read;
+      fed = laws.more first last next t.eaten chunk t.text text t.fed fed;
+      sent = Appends-trans v w x _ _ t.sent sent;
+      many = omega (arith, t.many, some, length-append t.eaten chunk);
+    }
+
+  -- ════ the end
+  module _ (over : S → Bool) {first last : S} {f g v w : Option (List ℕ)} {turns : ℕ} (t : Fed first last f g v w turns) where
+    ended : (over last ≡ false → length t.eaten < 18446744073709551615 → IsAtEnd g) → Through feeds over first last f g v w
+    ended h = record { eaten = t.eaten; text = t.text; read = t.read; fed = t.fed; sent = t.sent; ends = h }
+
+    -- nothing more is looked at
+    pub over_ends : over last ≡ true → Through feeds over first last f g v w
+    over_ends h = ended (λ e l. absurd (true≢false (sym h ∙ e)))
+
+    -- so many turns read more bytes than are promised of
+    pub turns_end : 18446744073709551615 ≤ turns → Through feeds over first last f g v w
+    turns_end h = ended (λ e l. absurd (omega (arith, l, h, t.many)))
+
+    -- a read that brought nothing left the input at its end
+    pub input_ends : (h : Option (List ℕ)) → Consumes g h [] → IsAtEnd h → Through feeds over first last f h v w
+    input_ends h read end = record {
+      eaten = t.eaten;
+      text = t.text;
+      read = subst (Consumes f h) (append-nil t.eaten) (Consumes-trans f g h _ _ t.read read);
+      fed = t.fed;
+      sent = t.sent;
+      ends = λ e l. end;
+    }

@@ -1,0 +1,13 @@
+-- What stands after an input was fed through: f is what the reader had left at first, g what it has now; v is what the writer held, w what it holds.
+use Rattle.std.specs.Prelude.{◌≡◌, ℕ, ◌<◌, Bool, false, List, length, Option}
+use Rattle.std.specs.Io.KnownBytes.{Appends, Consumes, IsAtEnd}
+
+pub record Through {S : Type 0} (feeds : S → List ℕ → S → List ℕ → Type 0) (over : S → Bool) (first last : S) (f g v w : Option (List ℕ)) : Type 0 where
+  -- the bytes that were read, and what they are answered
+  pub eaten : List ℕ
+  pub text : List ℕ
+  pub read : Consumes f g eaten
+  pub fed : feeds first eaten last text
+  pub sent : Appends v w text
+  -- it ends only where the input does, or nothing more is looked at
+  pub ends : over last ≡ false → length eaten < 18446744073709551615 → IsAtEnd g
