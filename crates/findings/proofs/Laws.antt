@@ -1,8 +1,8 @@
 -- What the code of the findings stands on: bytes as they are shown, lines of a text, a field's name and range, the first word out of range.
 -- Assumes nothing.
 use mathlib.Core.Path.{◌≡◌, refl, ap, sym, ◌∙◌}
-use mathlib.Core.Bool.{true, false, cond}
-use mathlib.Core.List.{List, [], ◌∷◌, ◌++◌}
+use mathlib.Core.Bool.{Bool, true, false}
+use mathlib.Core.List.{List, [], ◌∷◌, ◌++◌, append_assoc, append-nil}
 use Prim.Native.Nat.{ℕ, zero, suc, ◌+◌, ◌-◌, ◌≤◌, ◌<◌, min}
 use native.Mathlib.Numerals.{add-one}
 use native.Mathlib.Omega.{arith}
@@ -30,9 +30,10 @@ use Rattle.fixed.specs.declared.refusal.Refusal.TheVariants.{
 }
 use Rattle.fixed.specs.Refusal.{number_of}
 use Rattle.std.specs.Prelude.{Err}
+use Rattle.std.specs.Prelude.{Option, Some, None, Err, MatchOption}
 use Rattle.std.proofs.lemmas.Bool.Decides.{nat_tests}
 use Rattle.fixed.specs.Fixed.{is_in, within}
-use Rattle.settings.specs.Words.{entries, entry_at, no_entry, size}
+use Rattle.settings.specs.Words.{Entry, entries, entry_at, no_entry, size}
 use Rattle.fixed.proofs.Choice.{by_order}
 use Rattle.values.specs.Value.{before, behind}
 use Rattle.values.proofs.CodeLaws.{before_take, rest_part}
@@ -42,25 +43,51 @@ use Rattle.writing.proofs.PageLaws.{none, then}
 use Rattle.sheet.specs.Sheet.{lines_of, outcome, read_sheet}
 use Rattle.sheet.proofs.SheetLaws.{count_entries}
 use Rattle.sheet.proofs.Sizes.{line_most}
-use Rattle.findings.specs.Findings.{shown_byte, shown, from_line, first_out}
+use Rattle.findings.specs.Findings.{shown_byte, shown, quoted, from_line, first_out}
 
 -- ════ bytes as they are shown
+pub shown_length : (bs : List ℕ) → length (shown bs) ≡ length bs
+unfolding shown
+shown_length [] = refl
+shown_length (b ∷ bs) = ap suc (shown_length bs)
+
 shown_one : (bs : List ℕ) (b : ℕ) → shown (bs ++ (b ∷ [])) ≡ shown bs ++ (shown_byte b ∷ [])
 unfolding shown
 shown_one [] b = refl
 shown_one (x ∷ xs) b = ap (λ (l : List ℕ). shown_byte x ∷ l) (shown_one xs b)
 
--- the first bytes on a page, and the next one
-pub shown_next : {p q r : Page} (bs : List ℕ) (i : ℕ) → i < length bs → Put p q (shown (take i bs)) → Put q r (shown_byte (get_or bs i 0) ∷ [])
-    → Put p r (shown (take (i + 1) bs))
-shown_next bs i h a b = rw (add-one, take-suc bs i 0, shown_one) (then a b)
+-- what stands once some bytes of a line are shown behind a quote, with n of the rest to be shown
+pub record Showing (line : List ℕ) (p q : Page) (rest : List ℕ) (n : ℕ) : Type 0 where
+  pub done : List ℕ
+  pub put : Put p q ((34 ∷ []) ++ shown done)
+  pub own : done ++ take n rest ≡ take 40 line
+  pub few : q.at + n ≤ p.at + 41
 
--- the first bytes, as the code counts them
-pub first_part : (n m : ℕ) (bs : List ℕ) → n ≡ min (length bs) m → take n bs ≡ take m bs
-first_part n m bs e =
-    by_order (length bs) m
-    (λ h. take_all n bs (omega (arith, e, h)) ∙ sym (take_all m bs (omega (arith, h))))
-    (λ h. let z : n ≡ m = omega (arith, e, h) in ap (λ (k : ℕ). take k bs) z)
+pub showing_none : {line rest : List ℕ} {p q : Page} {n : ℕ} → Put p q (34 ∷ []) → rest ≡ line → n ≡ 40 → Showing line p q rest n
+unfolding shown
+showing_none h e f = record { done = []; put = h; own = rw (e, f) refl; few = omega (arith, h.place, f) }
+
+pub showing_more : {line rest more : List ℕ} {p q r : Page} {n m b c : ℕ} → Showing line p q rest n → rest ≡ b ∷ more → m + 1 ≡ n
+    → Put q r (c ∷ []) → c ≡ shown_byte b → Showing line p r more m
+showing_more {more = more} {m = m} {b} s e f h g =
+    record {
+      done = s.done ++ (b ∷ []);
+      put = rw (shown_one, ← g) (then s.put h);
+      own = rw append_assoc (rw (e, ← f, add-one) at s.own);
+      few = omega (arith, s.few, f, h.place);
+    }
+
+none_left : (n : ℕ) (rest : List ℕ) → (0 < n → length rest ≡ 0) → take n rest ≡ []
+none_left zero rest e = refl
+none_left (suc n) [] e = refl
+none_left (suc n) (x ∷ xs) e = absurd (omega (arith, e (omega arith)))
+
+pub showing_all : {line rest : List ℕ} {p q r : Page} {n : ℕ} → Showing line p q rest n → (0 < n → length rest ≡ 0) → Put q r (34 ∷ [])
+    → Put p r (quoted line)
+unfolding quoted
+showing_all {rest = rest} {n = n} s e h = rw (sym s.own, none_left n rest e, append-nil) (then s.put h)
+
+pub ruleset showing = (showing_none, showing_more)
 
 -- ════ lines of a text
 pub before_most : (b : ℕ) (bs : List ℕ) → length (before b bs) ≤ length bs
@@ -114,31 +141,36 @@ pub name_short : (bs : List ℕ) → length bs ≤ 6 → length (take (length bs
 name_short bs h = omega (arith, h, length-take (length bs - 1) bs)
 
 -- ════ the first word out of its range
--- what stands once the words in front of place i are in their ranges
-pub record Passed (zs : List ℤ) (i : ℕ) : Type 0 where
-  pub most : length zs ≡ size
-  pub left : first_out entries zs ≡ i + first_out (drop i entries) (drop i zs)
+-- whether word k is in its range
+abbrev pub is_good : List ℤ → ℕ → Bool
+is_good zs k = is_in (entry_at k).range (get_or zs k (pos 0))
 
-pub passed_none : (zs : List ℤ) → length zs ≡ size → Passed zs 0
-passed_none zs h = record { most = h; left = omega arith }
+first_at : (es : List Entry) (zs : List ℤ) (i : ℕ) (d : Entry) → length zs ≡ length es → i < length es
+    → is_in (get_or es i d).range (get_or zs i (pos 0)) ≡ false → ((k : ℕ) → k < i → is_in (get_or es k d).range (get_or zs k (pos 0)) ≡ true)
+    → i ≡ first_out es zs
+unfolding first_out
+first_at [] zs i d l h e f = absurd (omega (arith, h))
+first_at (x ∷ es) [] i d l h e f = absurd (omega (arith, l))
+first_at (x ∷ es) (z ∷ zs) zero d l h e f = rw e refl
+first_at (x ∷ es) (z ∷ zs) (suc i) d l h e f =
+    rw (f 0 (omega arith)) (ap suc (first_at es zs i d (omega (arith, l)) (omega (arith, h)) e (λ k m. f (suc k) (omega (arith, m)))))
 
-pub passed_all : (zs : List ℤ) (i : ℕ) → Passed zs i → size ≤ i → size ≤ first_out entries zs
-passed_all zs i p h = omega (arith, p.left, h)
+none_at : (es : List Entry) (zs : List ℤ) (d : Entry) → length zs ≡ length es
+    → ((k : ℕ) → k < length es → is_in (get_or es k d).range (get_or zs k (pos 0)) ≡ true) → length es ≤ first_out es zs
+unfolding first_out
+none_at [] zs d l f = omega arith
+none_at (x ∷ es) [] d l f = absurd (omega (arith, l))
+none_at (x ∷ es) (z ∷ zs) d l f =
+    rw (f 0 (omega arith)) (omega (arith, none_at es zs d (omega (arith, l)) (λ k m. f (suc k) (omega (arith, m)))))
 
-module _ {zs : List ℤ} {i : ℕ} (p : Passed zs i) where
-  here : i < size → first_out (drop i entries) (drop i zs)
-      ≡ cond (is_in (entry_at i).range (get_or zs i (pos 0))) (suc (first_out (drop (i + 1) entries) (drop (i + 1) zs))) 0
-  unfolding first_out
-  here h =
-      rw (drop-cons entries i no_entry (omega (arith, h, count_entries)), drop-cons zs i (pos 0) (omega (arith, h, p.most)), add-one) refl
-
-  pub passed_more : i < size → is_in (entry_at i).range (get_or zs i (pos 0)) ≡ true → Passed zs (i + 1)
-  passed_more h e = record { most = p.most; left = omega (arith, p.left, rw e at (here h)) }
-
-  pub out_here : i < size → is_in (entry_at i).range (get_or zs i (pos 0)) ≡ false → i ≡ first_out entries zs
-  out_here h e = omega (arith, p.left, rw e at (here h))
-
-pub ruleset passing = (passed_none, passed_more, out_here, passed_all)
+pub first_found : (zs : List ℤ) (r : Option ℕ) → length zs ≡ size
+    → MatchOption r ((k : ℕ) → 0 ≤ k → k < size → is_good zs k ≡ true)
+    (λ i. (0 ≤ i) × (i < size) × (is_good zs i ≡ false) × ((k : ℕ) → 0 ≤ k → k < i → is_good zs k ≡ true))
+    → MatchOption r (size ≤ first_out entries zs) (λ i. (i ≡ first_out entries zs) × (i < size))
+first_found zs None l h =
+    omega (arith, count_entries, none_at entries zs no_entry (omega (arith, l, count_entries)) (λ k m. h k (omega arith) (omega (arith, m, count_entries))))
+first_found zs (Some i) l h =
+    (first_at entries zs i no_entry (omega (arith, l, count_entries)) (omega (arith, h.1, count_entries)) h.2 (λ k m. h.3 k (omega arith) m), h.1)
 
 -- ════ why settings are refused
 -- the one that names a gain set is number 3

@@ -1,8 +1,9 @@
 // What the program sheet says of a text, without its reads and writes.
 #![tactic(auto)]
 
-ghost use Rattle.std.specs.Prelude.{◌≡◌, ◌+◌, ◌≤◌, ◌<◌, length, nat_abs, MatchOption};
+ghost use Rattle.std.specs.Prelude.{◌≡◌, ◌+◌, ◌≤◌, ◌<◌, length, pos, nat_abs, not, slice_index_or, MatchOption};
 ghost use Rattle.settings.specs.Words.{size, entry_at, entries};
+ghost use Rattle.fixed.specs.Fixed.{is_in};
 ghost use Rattle.fixed.specs.Refusal.{number_of};
 ghost use Rattle.writing.specs.Page.{Put, Room};
 ghost use Rattle.values.specs.Value.{before, value_text};
@@ -82,13 +83,14 @@ fn shown_byte(b: u8) -> u8
 }
 
 // A line in quotes, its first bytes where it has more.
+#[tactic(auto, using(crate::proofs::Laws::showing))]
 fn put_quoted(page: &mut Page, line: &[u8])
     requires { Room page.old 42 }
     ensures put { Put page.old page.new (quoted line.now) }
     ensures bound { page.new.at ≤ page.old.at + 42 }
 {
     page.put_byte(b'"');
-    for b in &line[..line.len().min(SHOWN)] {
+    for b in line.iter().take(SHOWN) {
         page.put_byte(shown_byte(*b));
     }
     page.put_byte(b'"');
@@ -204,18 +206,20 @@ fn put_range(page: &mut Page, i: usize, w: i32)
     put_ends(page, i);
 }
 
+// Whether word i is out of its range.
+fn is_out(words: &[i32; WORDS], i: usize) -> bool
+    requires { i < size }
+    ensures { result ≡ not (is_in (entry_at i).range (slice_index_or words.now i (pos 0))) }
+{
+    let f = names::field_at(i);
+    !fixed::within(f.lo, f.hi, words[i])
+}
+
 // The first word that is out of its range.
-#[tactic(auto, using(crate::proofs::Laws::passing))]
 fn first_out(words: &[i32; WORDS]) -> Option<usize>
     ensures { MatchOption result (size ≤ first_out entries words.now) (λ i. (i ≡ first_out entries words.now) × (i < size)) }
 {
-    for (i, w) in words.iter().enumerate() {
-        let f = names::field_at(i);
-        if !fixed::within(f.lo, f.hi, *w) {
-            return Some(i);
-        }
-    }
-    None
+    (0..WORDS).find(|i| is_out(words, *i))
 }
 
 // Word k and the one behind it, by their names.
