@@ -32,13 +32,11 @@ ghost use Rattle.findings.specs.Findings.{
 };
 
 use fixed::refusal::Refusal;
-use settings::Settings;
+use settings::{Settings, WORDS};
 use writing::Page;
 
 // As many bytes of a line are shown.
 const SHOWN: usize = 40;
-
-const WORDS: usize = settings::WORDS;
 
 // What kind of value a line has.
 #[tactic(auto, unfolding(crate::specs::Findings::kind_text, crate::specs::Phrases::gain_kind, crate::specs::Phrases::whole_kind))]
