@@ -3,12 +3,11 @@
 use mathlib.Core.Path.{◌≡◌, refl, ap, sym, ◌∙◌}
 use mathlib.Core.Bool.{Bool, true, false}
 use mathlib.Core.List.{List, [], ◌∷◌, ◌++◌, append_assoc, append-nil}
-use Prim.Native.Nat.{ℕ, zero, suc, ◌+◌, ◌-◌, ◌≤◌, ◌<◌, min}
+use Prim.Native.Nat.{ℕ, zero, suc, ◌+◌, ◌-◌, ◌≤◌, ◌<◌}
 use native.Mathlib.Numerals.{add-one}
 use native.Mathlib.Omega.{arith}
-use lib.ListN.{length, get_or, take, drop, length-take, length-drop, length-append, drop_of_length-le}
+use lib.ListN.{length, get_or, take, drop, length-take, length-drop, drop_of_length-le}
 use lib.IntN.{ℤ, pos}
-use lib.Seq.{drop-cons, take_all, take-suc}
 use denote.Enum.Bare.{sameb}
 use Rattle.fixed.specs.contracts.refusal.Refusal.{the_type}
 use Rattle.fixed.specs.declared.refusal.Refusal.{Refusal}
@@ -34,7 +33,6 @@ use Rattle.std.specs.Prelude.{Option, Some, None, Err, MatchOption}
 use Rattle.std.proofs.lemmas.Bool.Decides.{nat_tests}
 use Rattle.fixed.specs.Fixed.{is_in, within}
 use Rattle.settings.specs.Words.{Entry, entries, entry_at, no_entry, size}
-use Rattle.fixed.proofs.Choice.{by_order}
 use Rattle.values.specs.Value.{before, behind}
 use Rattle.values.proofs.CodeLaws.{before_take, rest_part}
 use Rattle.writing.specs.declared.Page.{Page}

@@ -15,7 +15,6 @@ use Rattle.settings.specs.Settings.{tied, gains_tied}
 use Rattle.settings.specs.Words.{Entry, entries, no_entry, size, words_of, all_in}
 use Rattle.settings.proofs.Names.{in-range-number, untied_only}
 use Rattle.std.specs.Prelude.{Result, Ok, Err}
-use Rattle.fixed.specs.Refusal.{number_of}
 use Rattle.sheet.specs.declared.Unread.TheVariants.{Faulty}
 use Rattle.sheet.specs.Sheet.{lines_of, outcome, read_sheet}
 use Rattle.sheet.proofs.SheetLaws.{good_text, sheet_refused, judged→, judged_number, count_entries}

@@ -7,7 +7,7 @@ use native.Mathlib.Omega.{arith}
 use lib.IntN.{pos}
 use lib.ListN.{get_or}
 use Rattle.fixed.proofs.Reading.{m32}
-use Rattle.settings.specs.Words.{entries, size, words_of}
+use Rattle.settings.specs.Words.{entries, size}
 use Rattle.writing.proofs.PageLaws.{none}
 use Rattle.findings.specs.Findings.{first_out, out_text, reason_text}
 use Rattle.findings.proofs.Laws.{third}
