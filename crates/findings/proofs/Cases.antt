@@ -101,7 +101,8 @@ comma_said =
 -- of a comma in place of a point
 comma : answer_text comma_text ≡ comma_said
 unfolding entries before first_of with_first read_lines settings_in lines_of told_text answer_text line17 decimal count_text expected kind_text expected_text
-    found found_text from_line fault_text gain_kind shown quoted end_text starts line_of number_of all_digits digits_of zero_in_front whole_of sum gain_of and_then
+    found found_text from_line fault_text gain_kind shown quoted end_text starts line_of number_of all_digits digits_of zero_in_front whole_of sum gain_of
+    and_then
 comma = refl
 
 -- `sKp=1111111111111111111111111111111111111`, 41 bytes

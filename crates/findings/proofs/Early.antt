@@ -11,8 +11,7 @@ use lib.IntN.{ℤ}
 use lib.ListN.{length, take, length-take}
 use Rattle.fixed.proofs.Choice.{by_test, by_order}
 use Rattle.settings.specs.Words.{Entry, entries}
-use Rattle.values.specs.declared.Number.{Number}
-use Rattle.values.specs.declared.Number.TheVariants.{Is, Wrong}
+use Rattle.std.specs.Prelude.{Option, Some, None}
 use Rattle.values.specs.Value.{before, behind}
 use Rattle.sheet.specs.Sheet.{first_of, Words, words, faulty, and_then, with_first, read_lines, settings_in, lines_of}
 use Rattle.sheet.proofs.SheetLaws.{plain, no_feeds, count_entries}
@@ -77,7 +76,7 @@ next : (c k n m : ℕ) (bs : List ℕ) → behind 10 (take n bs) ≡ take m (beh
 unfolding from_line
 next c k n m bs e o = record { m = o.m; enough = o.enough; same = ap (from_line k) e ∙ o.same }
 
-later : (i j : ℕ) (w : ℕ) (ls : Words) → with_first i (Is w) ls ≡ faulty j → ls ≡ faulty j
+later : (i j : ℕ) (w : ℕ) (ls : Words) → with_first i (Some w) ls ≡ faulty j → ls ≡ faulty j
 unfolding with_first and_then
 later i j w (words zs) e = absurd (no_fault e)
 later i j w (faulty m) e = e
@@ -93,10 +92,10 @@ onward c i j n (x ∷ es) bs p k h e =
     rest : Words
     rest = read_lines (i + 1) es (behind 10 bs)
 
-    by : (y : Number) → first_of x bs ≡ y → with_first i y rest ≡ faulty j
+    by : (y : Option ℕ) → first_of x bs ≡ y → with_first i y rest ≡ faulty j
         → ((m : ℕ) → 25 * length es + c ≤ m → rest ≡ faulty j → Onward c (j - (i + 1)) m (behind 10 bs)) → Onward c (j - i) n bs
-    by Wrong g e more = let z : i ≡ j = cc in at_zero c i j n bs z (omega (arith, h))
-    by (Is w) g e more =
+    by None g e more = let z : i ≡ j = cc in at_zero c i j n bs z (omega (arith, h))
+    by (Some w) g e more =
         let q = later i j w rest e in
         let t = cut_line x bs n w (its_free x es p k) (its_key x es p k) (omega (arith, h)) g in
         let z : suc (j - (i + 1)) ≡ j - i = omega (arith, (fault_most (i + 1) j es (behind 10 bs) q).0) in

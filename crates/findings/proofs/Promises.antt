@@ -14,9 +14,8 @@ use Rattle.settings.specs.declared.Settings.{Settings}
 use Rattle.settings.specs.Settings.{tied, gains_tied}
 use Rattle.settings.specs.Words.{Entry, entries, no_entry, size, words_of, all_in}
 use Rattle.settings.proofs.Names.{in-range-number, untied_only}
-use Rattle.sheet.specs.declared.Found.{Found}
-use Rattle.sheet.specs.declared.Found.TheVariants.{Good, Bad}
-use Rattle.sheet.specs.declared.Outcome.TheVariants.{Read, Faulty}
+use Rattle.std.specs.Prelude.{Result, Ok, Err}
+use Rattle.sheet.specs.declared.Unread.TheVariants.{Faulty}
 use Rattle.sheet.specs.Sheet.{lines_of, outcome, read_sheet}
 use Rattle.sheet.proofs.SheetLaws.{good_text, sheet_refused, judged→, judged_number, count_entries}
 use Rattle.findings.specs.Findings.{from_line, fault_text, first_out, untied_at, refused_text, accepted_text, judged_text, told_text, answer_text}
@@ -29,22 +28,22 @@ pub good_echoed : is.GoodEchoed
 unfolding read_sheet outcome answer_text told_text judged_text accepted_text
 good_echoed bs s e = by (lines_of bs) refl e
   where
-    by : (f : Found) → lines_of bs ≡ f → outcome f ≡ Read s → told_text bs f ≡ say.accepted ++ bs
-    by (Good r) g e = let h = judged→ r s e in rw h.0 (ap (λ (l : List ℕ). say.accepted ++ l) (sym (good_text bs r g)))
-    by (Bad i) g e = let z : ◌≡◌ {A = ℕ} 0 1 = cc in absurd (omega arith)
+    by : (f : Result Settings ℕ) → lines_of bs ≡ f → outcome f ≡ Ok s → told_text bs f ≡ say.accepted ++ bs
+    by (Ok r) g e = let h = judged→ r s e in rw h.0 (ap (λ (l : List ℕ). say.accepted ++ l) (sym (good_text bs r g)))
+    by (Err i) g e = let z : ◌≡◌ {A = ℕ} 0 1 = cc in absurd (omega arith)
 
 pub fault_told : is.FaultTold
 unfolding read_sheet outcome answer_text told_text
 fault_told bs j e = by (lines_of bs) e
   where
-    by : (f : Found) → outcome f ≡ Faulty j → told_text bs f ≡ fault_text j (from_line (j - 1) bs)
-    by (Good r) e = absurd (judged_number r j e)
-    by (Bad i) e = let z : i ≡ j = cc in ap (λ (k : ℕ). fault_text k (from_line (k - 1) bs)) z
+    by : (f : Result Settings ℕ) → outcome f ≡ Err (Faulty j) → told_text bs f ≡ fault_text j (from_line (j - 1) bs)
+    by (Ok r) e = absurd (judged_number r j e)
+    by (Err i) e = let z : i ≡ j = cc in ap (λ (k : ℕ). fault_text k (from_line (k - 1) bs)) z
 
 pub refusal_told : is.RefusalTold
 unfolding answer_text told_text judged_text
-refusal_told bs n e =
-    let h = (sheet_refused bs n).0 e in
+refusal_told bs r e =
+    let h = (sheet_refused bs r).0 e in
     record { settings = h.0; stand = h.1; refused = h.2; number = h.3; said = rw (h.1, h.2) (ap (refused_text h.0) h.3) }
 
 pub unread_changes_nothing : is.UnreadChangesNothing

@@ -1,12 +1,10 @@
 -- What the program sheet says of a text (docs/RULES.md, "The program sheet").
-use Rattle.std.specs.Prelude.{ℕ, zero, suc, ◌+◌, ◌-◌, Bool, cond, ◌&&◌, List, [], ◌∷◌, ◌++◌, ltb, leb, ℤ, pos, nat_abs, length, get_or, take}
+use Rattle.std.specs.Prelude.{ℕ, zero, suc, ◌+◌, ◌-◌, Bool, cond, ◌&&◌, List, [], ◌∷◌, ◌++◌, ltb, leb, ℤ, pos, nat_abs, length, get_or, take, Result, Ok, Err}
 use Rattle.fixed.specs.Fixed.{is_in, within}
 use Rattle.settings.specs.declared.Settings.{Settings}
 use Rattle.settings.specs.Settings.{accepted, refusal, tied}
 use Rattle.settings.specs.Words.{Entry, entries, entry_at, key, size, words_of}
 use Rattle.writing.specs.Decimal.{count_text}
-use Rattle.sheet.specs.declared.Found.{Found}
-use Rattle.sheet.specs.declared.Found.TheVariants.{Good, Bad}
 use Rattle.values.specs.Value.{value_text, before, has, behind}
 use Rattle.sheet.specs.Sheet.{sheet_text, lines_of}
 use Rattle.findings.specs.Phrases as say
@@ -97,9 +95,9 @@ accepted_text s = say.accepted ++ sheet_text s
 unfoldable pub judged_text : Settings → List ℕ
 judged_text s = cond (accepted s) (accepted_text s) (refused_text s (refusal s))
 
-unfoldable pub told_text : List ℕ → Found → List ℕ
-told_text bs (Good s) = judged_text s
-told_text bs (Bad i) = fault_text i (from_line (i - 1) bs)
+unfoldable pub told_text : List ℕ → Result Settings ℕ → List ℕ
+told_text bs (Ok s) = judged_text s
+told_text bs (Err i) = fault_text i (from_line (i - 1) bs)
 
 unfoldable pub answer_text : List ℕ → List ℕ
 answer_text bs = told_text bs (lines_of bs)

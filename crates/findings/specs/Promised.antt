@@ -1,11 +1,12 @@
 -- What the program's words promise: they say what the reader gives, and what they name is at fault.
-use Rattle.std.specs.Prelude.{◌≡◌, false, List, ◌++◌, ℕ, ◌+◌, ◌-◌, ◌≤◌, ◌<◌, ℤ, pos, get_or, take}
+use Rattle.std.specs.Prelude.{◌≡◌, false, List, ◌++◌, ℕ, ◌+◌, ◌-◌, ◌≤◌, ◌<◌, ℤ, pos, get_or, take, Ok, Err}
 use Rattle.fixed.specs.Fixed.{is_in}
+use Rattle.fixed.specs.Refusal.{number_of}
+use Rattle.fixed.specs.declared.refusal.Refusal.{Refusal}
 use Rattle.settings.specs.declared.Settings.{Settings}
 use Rattle.settings.specs.Settings.{accepted, refusal, tied}
 use Rattle.settings.specs.Words.{entries, entry_at, size, words_of}
-use Rattle.sheet.specs.declared.Outcome.TheVariants.{Read, Refused, Faulty}
-use Rattle.sheet.specs.declared.Found.TheVariants.{Good}
+use Rattle.sheet.specs.declared.Unread.TheVariants.{Refused, Faulty}
 use Rattle.sheet.specs.Sheet.{lines_of, read_sheet}
 use Rattle.findings.specs.Phrases as say
 use Rattle.findings.specs.Findings.{from_line, fault_text, first_out, untied_at, refused_text, answer_text}
@@ -13,22 +14,22 @@ use Rattle.findings.specs.Findings.{from_line, fault_text, first_out, untied_at,
 -- ════ what is said is what is read
 -- a text that is read as settings: 0 and the text itself, byte for byte
 abbrev pub GoodEchoed : Type 0
-GoodEchoed = (bs : List ℕ) (s : Settings) → read_sheet bs ≡ Read s → answer_text bs ≡ say.accepted ++ bs
+GoodEchoed = (bs : List ℕ) (s : Settings) → read_sheet bs ≡ Ok s → answer_text bs ≡ say.accepted ++ bs
 
 -- 17: the line that comes with it, and what stands there
 abbrev pub FaultTold : Type 0
-FaultTold = (bs : List ℕ) (j : ℕ) → read_sheet bs ≡ Faulty j → answer_text bs ≡ fault_text j (from_line (j - 1) bs)
+FaultTold = (bs : List ℕ) (j : ℕ) → read_sheet bs ≡ Err (Faulty j) → answer_text bs ≡ fault_text j (from_line (j - 1) bs)
 
 -- 1 to 5: the number, and why the settings that stand in the text are refused
 pub record Told (bs : List ℕ) (n : ℤ) : Type 0 where
   pub settings : Settings
-  pub stand : lines_of bs ≡ Good settings
+  pub stand : lines_of bs ≡ Ok settings
   pub refused : accepted settings ≡ false
   pub number : refusal settings ≡ n
   pub said : answer_text bs ≡ refused_text settings n
 
 abbrev pub RefusalTold : Type 0
-RefusalTold = (bs : List ℕ) (n : ℤ) → read_sheet bs ≡ Refused n → Told bs n
+RefusalTold = (bs : List ℕ) (r : Refusal) → read_sheet bs ≡ Err (Refused r) → Told bs (number_of r)
 
 -- what stands behind the first 500 bytes changes nothing: so it need not be read
 abbrev pub UnreadChangesNothing : Type 0

@@ -1,24 +1,11 @@
 -- `findings::put_range` meets its contract.
 -- Assumes nothing.
-use mathlib.Core.Path.{ap, sym}
-use native.Mathlib.Omega.{arith}
-use lib.ListN.{length-append}
 use mir.Facts.{to_z-of_z}
-use Rattle.writing.proofs.TextLaws.{put, put_then}
-use Rattle.settings.specs.Words.{entry_at}
-use Rattle.values.proofs.Putting.{named}
+use Rattle.writing.proofs.PageLaws.{then}
 use Rattle.findings.specs.Phrases.{must_be}
 use Rattle.findings.specs.Findings.{range_text}
 use Rattle.findings.proofs.put_range.Goals as goal
 
-pub returns : goal.returns
+pub returns-clause-put : goal.returns-clause-put
 unfolding range_text must_be
-returns c =
-    let h = c.requires.1 in
-    let m = c.put_is-a.ensures in
-    let v = c.put_ends.ensures in
-    let i = put m.0 m.1 in
-    let j = put_then i (put c.put_text-b.ensures.0 c.put_text-b.ensures.1) (omega (arith, h, m.0, m.2)) in
-    let k = put_then j (put v.0 v.1) (simp length-append (omega (arith, h, m.0, m.2, v.0, v.2))) in
-    let r = named k (ap (range_text (entry_at c.args.i)) (sym (to_z-of_z c.ranges.w))) in
-    (r.0, r.1, omega (arith, m.2, c.put_text-b.ensures.0, v.2))
+returns-clause-put c = then (then (rw (to_z-of_z c.ranges.w) at c.put_is.ensures.put) c.put_text.ensures) c.put_ends.ensures.put

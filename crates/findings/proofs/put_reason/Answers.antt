@@ -1,34 +1,36 @@
 -- `findings::put_reason` meets its contract.
 -- Assumes nothing.
-use mathlib.Core.Path.{◌≡◌, ap, ap₂, sym, ◌∙◌}
-use lib.IntN.{ℤ, pos}
-use mir.Facts.{to_z-of_z}
-use Rattle.fixed.specs.Fixed.{within}
-use Rattle.writing.proofs.TextLaws.{put}
-use Rattle.settings.specs.Words.{entries}
-use Rattle.values.proofs.Putting.{named}
-use Rattle.findings.specs.Findings.{first_out, out_text, untied_text, reason_text}
+use mathlib.Core.Path.{◌≡◌, sym, ◌∙◌}
+use borrow.Author.Rules.{rules}
+use borrow.Author.Tests.{lt-ltb, le-ltb}
+use native.Mathlib.Omega.{arith}
+use lib.IntN.{pos}
+use lib.ListN.{get_or}
+use Rattle.fixed.proofs.Reading.{m32}
+use Rattle.settings.specs.Words.{entries, size}
+use Rattle.writing.proofs.PageLaws.{none}
+use Rattle.findings.specs.Findings.{first_out, out_text, reason_text}
+use Rattle.findings.proofs.Laws.{third}
 use Rattle.findings.proofs.put_reason.Goals as goal
 
-pub returns-then-within : goal.returns-then-within
+pub returns-then-eq-clause-put : goal.returns-then-eq-clause-put
 unfolding reason_text
-returns-then-within c =
-    let s = c.args in
-    let third = ap (λ (z : ℤ). within (pos 3) (pos 3) z) (sym (to_z-of_z c.ranges.n)) ∙ sym c.within.ensures in
-    let e = c.put_untied.ensures in
-    let own : reason_text s.s s.n ≡ untied_text c.words_of-words.result c.untied_at-k.result =
-    rw (third ∙ c.if-within.true) (ap₂ untied_text (sym c.words_of-words.ensures) (sym c.untied_at-k.ensures.0)) in
-    let r = named (put e.0 e.1) own in
-    (r.0, r.1, e.2)
+returns-then-eq-clause-put c =
+    let t = sym (third c.args.why) ∙ sym c.eq.ensures ∙ c.if-eq.true in
+    rw (t, ← c.words_of-words.ensures, ← c.untied_at.ensures.0) c.put_untied.ensures.put
 
-pub returns : goal.returns
-unfolding reason_text
-returns c =
-    let s = c.args in
-    let third = ap (λ (z : ℤ). within (pos 3) (pos 3) z) (sym (to_z-of_z c.ranges.n)) ∙ sym c.within.ensures in
-    let e = c.put_out.ensures in
-    let f = sym c.words_of-words.ensures in
-    let own : reason_text s.s s.n ≡ out_text c.words_of-words.result c.first_out-i.result =
-    rw (third ∙ c.if-within.false) (ap₂ out_text f (ap (first_out entries) f ∙ sym c.first_out-i.ensures)) in
-    let r = named (put e.0 e.1) own in
-    (r.0, r.1, e.2)
+pub returns-in-Some-clause-put : goal.returns-in-Some-clause-put
+unfolding reason_text out_text
+returns-in-Some-clause-put c =
+    let t = sym (third c.args.why) ∙ sym c.eq.ensures ∙ c.if-eq.false in
+    let i = c.in-Some.i in
+    let e = c.in-Some.ensures in
+    let w : m32 (get_or c.words_of-words.result i (pos 0)) ≡ get_or c.words_of-words.result i (pos 0) = search rules in
+    rw (t, ← c.words_of-words.ensures, ← e.0, lt-ltb i size e.1) (rw w at c.put_range.ensures.put)
+
+pub returns-in_default-clause-put : goal.returns-in_default-clause-put
+unfolding reason_text out_text
+returns-in_default-clause-put c =
+    let t = sym (third c.args.why) ∙ sym c.eq.ensures ∙ c.if-eq.false in
+    let w = c.words_of-words.result in
+    rw (t, ← c.words_of-words.ensures, le-ltb (first_out entries w) size c.in_default.ensures) (none c.args.page.now (omega arith))
