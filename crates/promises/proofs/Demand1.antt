@@ -8,7 +8,7 @@ use Prim.Native.Nat.{ℕ, zero, suc}
 use lib.Dec.{leb}
 use lib.IntN.{ℤ, pos}
 use lib.ListN.{length}
-use Rattle.std.specs.Prelude.{Ok, Err}
+use Rattle.std.specs.Prelude.{Result, Ok, Err}
 use Rattle.fixed.specs.Fixed.{within}
 use Rattle.fixed.specs.Ladder.{answer_of, Reached}
 use Rattle.fixed.proofs.Choice.{by_test}
@@ -16,7 +16,7 @@ use Rattle.fixed.proofs.HeldLaws.{equal_is}
 use Rattle.fixed.proofs.LadderLaws.{Climbs, exactly, every, holds, all_pass_lem}
 use Rattle.settings.specs.declared.Settings.{Settings}
 use Rattle.settings.specs.Settings.{refusals, refusal, accepted, checked, checked_number, period_ok, gains_ok, gains_tied, limits_ok, rest_ok}
-use Rattle.settings.proofs.Ranges.{checked_is}
+use Rattle.settings.proofs.Ranges.{checked_is, refusal_number}
 use Rattle.drive_record.specs.declared.Drive.{Drive}
 use Rattle.drive_record.specs.Record.{broken}
 use Rattle.stages.specs.declared.Stepped.{Stepped}
@@ -24,8 +24,8 @@ use Rattle.stages.specs.Step.{rules_3_to_9, rules_6_to_9, outcome, advanced}
 use Rattle.drive.specs.Calls.{fresh, make_table, made, made_number, with_trip, refused, step_table}
 use Rattle.drive.specs.Calls.{stepped, answered, with_target, target_table, targeted, clear_table, cleared}
 use Rattle.drive.proofs.CallLaws.{made_is}
-use Rattle.sheet.specs.declared.Outcome.{Outcome}
-use Rattle.sheet.specs.declared.Outcome.TheVariants.{Read, Refused, Faulty}
+use Rattle.sheet.specs.declared.Unread.{Unread}
+use Rattle.sheet.specs.declared.Unread.TheVariants.{Refused, Faulty}
 use Rattle.sheet.specs.Sheet.{sheet_text, read_sheet, wrote}
 use Rattle.sheet.specs.Calls.{reading_of, writing_of}
 use Rattle.sheet.proofs.SheetLaws.{sheet_refused}
@@ -145,17 +145,17 @@ read_free : (text : List ℕ) → spare (reading_of (read_sheet text)).number �
 unfolding reading_of
 read_free text = by (read_sheet text) refl
   where
-    by : (o : Outcome) → read_sheet text ≡ o → spare (reading_of o).number ≡ false
-    by (Read s) e = refl
-    by (Refused n) e = let h = (sheet_refused text n).0 e in ap spare (sym h.3) ∙ refusal_free h.0
-    by (Faulty i) e = refl
+    by : (o : Result Settings Unread) → read_sheet text ≡ o → spare (reading_of o).number ≡ false
+    by (Ok s) e = refl
+    by (Err (Refused r)) e = let h = (sheet_refused text r).0 e in ap spare (sym h.3) ∙ refusal_free h.0
+    by (Err (Faulty i)) e = refl
 
 write_free : (s : Settings) (room : ℕ) → spare (writing_of (wrote s room)).number ≡ false
 unfolding writing_of wrote
 write_free s room =
     by_test (accepted s)
     (λ a. rw a (by_test (leb (length (sheet_text s)) room) (λ t. rw t refl) (λ t. rw t refl)))
-    (λ a. rw a (refusal_free s))
+    (λ a. rw a (ap spare (refusal_number s a) ∙ refusal_free s))
 
 pub kept_free : KeptFree
 kept_free = record {

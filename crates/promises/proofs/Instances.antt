@@ -8,6 +8,7 @@ use native.Mathlib.Omega.{arith}
 use lib.IntN.{ℤ, pos, negsuc, ◌-ℤ◌}
 use lib.Signed.{lt_z_yes, le_z_yes}
 use Rattle.fixed.specs.Fixed.{down, held}
+use Rattle.fixed.specs.declared.refusal.Refusal.TheVariants.{Untied}
 use Rattle.fixed.proofs.Ranges.{Inside}
 use Rattle.regulator.specs.Regulator.{sum_of, out_of, next_of, regulated}
 use Rattle.frames.specs.Frames.{inverse_park}
@@ -41,10 +42,10 @@ use Rattle.promises.proofs.Window.{quiet_no_clear}
 pub tables_met : TablesMet
 unfolding fresh with_trip rows_fit
 tables_met =
-    let b = refused_broken spoiled (pos 3) value.untied_refused in
+    let b = refused_broken spoiled Untied value.untied_refused in
     let j = (not_broken (with_trip rested)).1 (trip_sound rested bench_sound) in
     record {
-      settings = (value.bench_accepted, (checked_refused untied (pos 3) value.untied_refused).0);
+      settings = (value.bench_accepted, (checked_refused untied Untied value.untied_refused).0);
       step = (b, (j, refl), (bench_intact, (refl, (value.samples).3)), (bench_intact, (refl, ((value.samples).0, tt))));
       target = (b, (j, refl), (bench_intact, (refl, targets.1)), (bench_intact, (refl, (targets.0, tt))));
       clear = (b, (bench_intact, refl), (j, (refl, tt)));

@@ -1,6 +1,6 @@
 -- The promises are of the code: each public call's own contract, `Post`, which the function's proof meets, allows just the answer that its
 -- definition gives, for all arguments, and asks nothing, `Pre`. So there is no second outcome.
-use Rattle.std.specs.Prelude.{◌≡◌, ◌↔◌, List, ℕ, ℤ, pos, length}
+use Rattle.std.specs.Prelude.{◌≡◌, ◌↔◌, List, ℕ, ℤ, pos, length, Result}
 use contract.Lifetimes.{Lfts}
 use borrow.Fn.Kinds.{ParamKind, ResultKind, Dens, res_t, ended_of, In, Out}
 use denote.Triple.Clauses.{AtExit}
@@ -44,7 +44,7 @@ use Rattle.field.specs.Field.{flux_of}
 use Rattle.settings.specs.Settings.{checked}
 use Rattle.drive.specs.Calls.{fresh as fresh_of, made, made_number, stepped, targeted, cleared}
 use Rattle.rows.specs.Rows.{run_of, output_after}
-use Rattle.sheet.specs.declared.Wrote.{Wrote}
+use Rattle.sheet.specs.declared.Unwritten.{Unwritten}
 use Rattle.sheet.specs.declared.Writing.{Writing}
 use Rattle.sheet.specs.Sheet.{read_sheet, wrote, sheet_in}
 use Rattle.sheet.specs.Calls.{reading_of, writing_of}
@@ -121,7 +121,7 @@ abbrev pub ReadSettled : Type 0
 ReadSettled = Settled 1 read_kinds.ps read_kinds.r read.Pre read.Post (λ κs u x. u) (λ κs a. read_sheet a.0.now)
 
 abbrev pub WriteSettled : Type 0
-WriteSettled = Settled 1 write_kinds.ps write_kinds.r write.Pre write.Post {B = Wrote × List ℕ} (λ κs u x. (u, x.1.0.now))
+WriteSettled = Settled 1 write_kinds.ps write_kinds.r write.Pre write.Post {B = Result ℕ Unwritten × List ℕ} (λ κs u x. (u, x.1.0.now))
     (λ κs a. (wrote a.0 (length a.1.0.now), sheet_in a.0 a.1.0.now))
 
 -- the same for C
