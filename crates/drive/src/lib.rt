@@ -30,6 +30,7 @@ use stages::Stepped;
 #[derive(Clone, Copy)]
 pub struct Answered {
     pub drive: Drive,
+    // the rules' number, 0 where none refuses: promises/specs/Demand1 `TargetTable` and `ClearTable` read it of this record, and C gets it
     pub number: i32,
 }
 
@@ -100,7 +101,8 @@ fn refused(d: Drive, t: i32, why: Refusal) -> Stepped
     }
 }
 
-// A step on a record that has been tested: what a run does for each row.
+// A step on a record that has been tested: what a run does for each row. That it is sound is a clause and no type: docs/PROMISES.md names this function,
+// and a type with an invariant would ask more of its callers.
 #[tactic(auto, unfolding(crate::specs::Calls::stepped_sound))]
 pub fn step_sound(d: Drive, ia: i32, ib: i32, count: i32) -> Stepped
     requires { sound_of d ≡ true }
@@ -115,7 +117,7 @@ pub fn step_sound(d: Drive, ia: i32, ib: i32, count: i32) -> Stepped
     stages::advance(d, ia, ib, count)
 }
 
-// One step from any record and any sample.
+// One step from any record and any sample. The sample is three numbers and no struct, as C and the rows have it: it would be made to be taken apart.
 #[tactic(auto, unfolding(crate::specs::Calls::stepped, crate::specs::Calls::stepped_sound, drive_record::specs::Record::broken))]
 pub fn step(d: Drive, ia: i32, ib: i32, count: i32) -> Stepped
     ensures { result ≡ stepped d ia ib count }

@@ -2,17 +2,20 @@
 -- Assumes nothing.
 use mathlib.Core.Path.{◌≡◌, refl}
 use mathlib.Core.List.{List, [], ◌∷◌, ◌++◌, append_assoc}
-use Prim.Native.Nat.{ℕ, ◌+◌, ◌-◌}
+use Prim.Native.Nat.{ℕ, ◌+◌, ◌-◌, ◌≤◌}
 use native.Mathlib.Omega.{arith}
 use borrow.Rule.Slice.PartMut.{put_mid}
-use lib.ListN.{length, take, drop}
+use lib.ListN.{length, take, drop, length-append, length-take, length-drop}
 use lib.Seq.{take-append_seam, drop-append-add, drop-drop}
 
 module _ {A : Type 0} (a b c e : A) where
-  -- copied to a place
-  pub copied_four : (l : List A) (i : ℕ) {now : List A} → now ≡ a ∷ b ∷ c ∷ e ∷ []
-      → put_mid i (i + 4 - i) l now ≡ take i l ++ (a ∷ b ∷ c ∷ e ∷ drop (i + 4) l)
-  copied_four l i {now} is = let k : i + 4 - i ≡ 4 = omega arith in rw (is, k, drop-drop) refl
+  -- put where four stood
+  pub put_four : (l : List A) (i : ℕ) {now : List A} → now ≡ a ∷ b ∷ c ∷ e ∷ [] → i + 4 ≤ length l
+      → (put_mid i (i + 4 - i) l now ≡ take i l ++ (a ∷ b ∷ c ∷ e ∷ drop (i + 4) l)) × (length (put_mid i (i + 4 - i) l now) ≡ length l)
+  put_four l i {now} is h =
+      let k : i + 4 - i ≡ 4 = omega arith in
+      let put : put_mid i (i + 4 - i) l now ≡ take i l ++ (a ∷ b ∷ c ∷ e ∷ drop (i + 4) l) = rw (is, k, drop-drop) refl in
+      (put, rw put (simp (length-append, length-take, length-drop) (omega arith)))
 
   -- the first k, as written, and of the rest, as it was, the next four
   pub next_four : (written o : List A) (k : ℕ) → length written ≡ k →

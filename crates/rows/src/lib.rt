@@ -26,6 +26,7 @@ use stages::Stepped;
 #[derive(Clone, Copy)]
 pub struct Ran {
     pub drive: Drive,
+    // the rules' number, 0 where none refuses: promises/specs/Demand1 `RunTable` reads it of this record
     pub number: i32,
     pub accepted: usize,
     pub clipped: usize,
@@ -42,14 +43,13 @@ fn row_step(d: Drive, samples: &[i32], i: usize) -> Stepped
     drive::step_sound(d, ia, ib, count)
 }
 
-// The three compares and the number of a step, at a place.
+// The three compares and the number of a step.
 #[tactic(auto, unfolding(crate::specs::Rows::four))]
-fn put_row(out: &mut [i32], at: usize, s: Stepped)
-    requires { at + 4 ≤ length out.old }
-    ensures { out.new ≡ take_of at out.old ++ (four s ++ drop (at + 4) out.old) }
+fn put_row(out: &mut [i32], s: Stepped)
+    requires { length out.old ≡ 4 }
+    ensures { out.new ≡ four s }
 {
-    let four = [s.pulses.a, s.pulses.b, s.pulses.c, s.number];
-    out[at..at + 4].copy_from_slice(&four);
+    out.copy_from_slice(&[s.pulses.a, s.pulses.b, s.pulses.c, s.number]);
 }
 
 fn accepted_in(s: Stepped) -> usize
@@ -74,7 +74,7 @@ fn rows_run(d: Drive, samples: &[i32], out: &mut [i32], n: usize) -> Ran
     let mut clipped: usize = 0;
     for i in 0..n {
         let s = row_step(cur, samples, i);
-        put_row(out, 4 * i, s);
+        put_row(&mut out[4 * i..4 * i + 4], s);
         accepted += accepted_in(s);
         clipped += clipped_in(s);
         cur = s.drive;

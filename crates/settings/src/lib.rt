@@ -76,6 +76,7 @@ fn period_ok(s: Settings) -> bool
     fixed::within(SHORTEST, LONGEST, s.t)
 }
 
+// Three numbers and no struct of gains: settings have them flat, as C does, and a struct would be made to be taken apart here.
 fn gain_ok(kp: i32, kcor: i32, ki: i32) -> bool
     ensures { result ≡ gain_ok kp kcor ki }
 {
@@ -88,7 +89,7 @@ fn gains_ok(s: Settings) -> bool
     gain_ok(s.skp, s.skcor, s.ski) & gain_ok(s.ckp, s.ckcor, s.cki)
 }
 
-// In 64 bits, so that the product fits whatever the gains are.
+// In 64 bits, so that the product fits whatever the gains are. Three numbers, as above.
 pub fn tied(kp: i32, kcor: i32, ki: i32) -> bool
     ensures { result ≡ is_tied kp kcor ki }
 {
@@ -150,7 +151,7 @@ pub fn is_accepted(s: Settings) -> bool
     check(s).is_ok()
 }
 
-// The words, in the order of the sheet.
+// The words, in the order of the sheet. A function and no `From`: an array of numbers does not say which order it is in.
 pub fn words_of(s: Settings) -> [i32; WORDS]
     ensures { result ≡ words_of s }
 {
@@ -160,7 +161,7 @@ pub fn words_of(s: Settings) -> [i32; WORDS]
     ]
 }
 
-// The settings whose words these numbers begin with.
+// The settings whose words these numbers begin with. No `From` here either: more numbers may follow, as in a line of `probe`.
 pub fn of_words(w: &[i32]) -> Settings
     requires { size ≤ length w.now }
     ensures { result ≡ settings_of w.now }

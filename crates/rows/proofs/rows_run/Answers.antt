@@ -1,10 +1,12 @@
--- `rows::rows_run` meets its contract. The measure is how many rows are left.
+-- `rows::rows_run` meets its contract.
 -- Assumes nothing.
 use mathlib.Core.Path.{◌≡◌, refl}
+use Prim.Native.Nat.{◌*◌}
 use native.Mathlib.Omega.{arith}
 use Rattle.drive_record.proofs.Ranges.{sound→, sound←}
+use Rattle.rows.proofs.Lists.{put_four}
 use Rattle.rows.proofs.Runs.{more, one_most}
-use Rattle.rows.specs.Rows.{is_accepted, is_clipped, no_rows, ran_of, written_of}
+use Rattle.rows.specs.Rows.{four, is_accepted, is_clipped, no_rows, ran_of, written_of}
 use Rattle.rows.proofs.rows_run.Goals as goal
 
 pub returns : goal.returns
@@ -27,12 +29,13 @@ loop-i-init c = record {
 }
 
 pub loop-i-preserved : goal.loop-i-preserved
+unfolding four
 loop-i-preserved c =
-    let r = c.before.before.before.before in
-    let k = r.before.before in
-    more k.before.before.loop-i.invariant k.row_step-s.result
-    r.put_row.new.out c.before.before.accepted_in-accepted.result c.before.clipped_in-clipped.result k.before.loop-i-test.true
-    k.row_step-s.ensures r.put_row.ensures r.put_row.auto.out c.before.before.accepted_in-accepted.ensures c.before.clipped_in-clipped.ensures
+    let u = c.loop-i.invariant in
+    let s = c.row_step-s.result in
+    let put = put_four s.pulses.a s.pulses.b s.pulses.c s.number c.loop-i.out (4 * c.loop-i.i) c.put_row.ensures (omega (arith, u.long, u.small)) in
+    more u s _ c.accepted_in-accepted.result c.clipped_in-clipped.result c.loop-i-test.true
+    c.row_step-s.ensures put.0 put.1 c.accepted_in-accepted.ensures c.clipped_in-clipped.ensures
 
 pub row_step-s-requires : goal.row_step-s-requires
 row_step-s-requires c = (sound← c.before.loop-i.cur c.before.loop-i.invariant.is_sound, omega arith)
