@@ -6,7 +6,6 @@
 ghost use Rattle.std.specs.Prelude.{◌+◌, ◌≤◌, length};
 
 use drive_record::Drive;
-use settings::Checked;
 
 // A motor that turns slowly at its nominal flux: the currents scatter, the count moves, slip divides in every row once the flux is there.
 const SAMPLES: [i32; 96] = [
@@ -33,13 +32,11 @@ fn runs(
     let mut last = d;
     let mut accepted: usize = 0;
     let mut start: usize = 0;
-    let mut i: usize = 0;
-    while i < times {
+    for _ in 0..times {
         let r = rows::run(last, &samples[start..start + size], out);
         last = r.drive;
         accepted = r.accepted;
         start = other - start;
-        i += 1;
     }
     accepted
 }
@@ -56,28 +53,28 @@ fn show(rt: HostRuntime, n: u64) {
 
 // Whether a number is above 300; asked of the last row's, so that no part of the run goes unused and is left out by the optimiser.
 fn above(v: i32) -> u64 {
-    if 300 < v { 1 } else { 0 }
+    u64::from(300 < v)
 }
 
 fn main(rt: HostRuntime) {
-    let Checked::Accepted(s) = settings::check(settings::bench_settings()) else {
+    let Ok(s) = settings::check(settings::bench_settings()) else {
         return;
     };
     let d = drive::fresh(s);
     let mut bytes = [0u8; 65536];
-    let got = pipes::receive(&mut rt.stdin(), &mut bytes);
-    if got.failed {
-        pipes::unread(&mut rt.stderr(), b"measure_run");
-        return;
-    }
-    let times = got.size;
+    let times = match pipes::receive(&mut rt.stdin(), &mut bytes) {
+        Ok(size) => size,
+        Err(why) => {
+            let _ = pipes::tell(&mut rt.stderr(), b"measure_run", why.words());
+            return;
+        }
+    };
     let samples = SAMPLES;
     let mut out = [0i32; 128];
     let size = samples_a_run(bytes[0]);
     let accepted = runs(d, &samples, &mut out, times, size, 96 - size);
     show(rt, accepted as u64);
-    show(rt, above(out[124]));
-    show(rt, above(out[125]));
-    show(rt, above(out[126]));
-    show(rt, above(out[127]));
+    for &v in &out[124..] {
+        show(rt, above(v));
+    }
 }

@@ -6,13 +6,17 @@
 ghost use Rattle.std.specs.Prelude.{◌≤◌, length};
 ghost use Rattle.sine.specs.Sine.{Angle};
 
+use writing::Page;
+
 fn show(rt: HostRuntime, numbers: &[i32])
     requires { (1 ≤ length numbers.now) × (length numbers.now ≤ 2) }
 {
     let mut out = [0u8; 24];
-    let place = writing::put_line(numbers, numbers.len(), &mut out, 0);
-    if !pipes::send(&mut rt.stdout(), &out, place) {
-        pipes::unsent(&mut rt.stderr(), b"test_entries");
+    let mut page = Page::new(&mut out, 0);
+    page.put_line(numbers);
+    let place = page.place();
+    if let Err(why) = pipes::send(&mut rt.stdout(), &out[..place]) {
+        let _ = pipes::tell(&mut rt.stderr(), b"test_entries", why.words());
     }
 }
 
@@ -31,20 +35,14 @@ fn show_both(rt: HostRuntime, angle: i32)
 }
 
 fn show_all(rt: HostRuntime) {
-    let mut k: u32 = 0;
-    while k < 256 {
-        show_both(rt, (256 * k) as i32);
-        k += 1;
+    for entry in 0..256u16 {
+        show_both(rt, 256 * i32::from(entry));
     }
 }
 
 fn main(rt: HostRuntime) {
-    show_sine(rt, 0);
-    show_sine(rt, 256);
-    show_sine(rt, 4096);
-    show_sine(rt, 8192);
-    show_sine(rt, 16128);
-    show_sine(rt, 16384);
-    show_sine(rt, 255);
+    for angle in [0, 256, 4096, 8192, 16128, 16384, 255] {
+        show_sine(rt, angle);
+    }
     show_all(rt);
 }

@@ -5,8 +5,9 @@
 ghost use Rattle.std.specs.Prelude.{◌≤◌, length};
 
 use drive_record::Drive;
+use field::Field;
 use rows::Ran;
-use settings::Checked;
+use writing::Page;
 
 // A run that is lent the first so many of the answers.
 fn run_into(d: Drive, samples: &[i32], answers: &mut [i32], lent: usize) -> Ran
@@ -15,17 +16,18 @@ fn run_into(d: Drive, samples: &[i32], answers: &mut [i32], lent: usize) -> Ran
     rows::run(d, samples, &mut answers[..lent])
 }
 
-fn tell(rt: HostRuntime, r: Ran, answers: &[i32], out: &mut [u8])
-    requires { (8 ≤ length answers.now) × (150 ≤ length out.old) }
+fn tell(rt: HostRuntime, r: Ran, answers: &[i32; 8], out: &mut [u8])
+    requires { 150 ≤ length out.old }
 {
-    let number = [r.number];
-    let a = writing::put_count(r.accepted as u64, out, 0);
-    let b = writing::put_byte(b' ', out, a);
-    let c = writing::put_count(r.clipped as u64, out, b);
-    let e = writing::put_byte(b' ', out, c);
-    let f = writing::put_line(&number, 1, out, e);
-    let end = writing::put_line(answers, 8, out, f);
-    pipes::send(&mut rt.stdout(), out, end);
+    let mut page = Page::new(out, 0);
+    page.put_count(r.accepted as u64);
+    page.put_byte(b' ');
+    page.put_count(r.clipped as u64);
+    page.put_byte(b' ');
+    page.put_line(&[r.number]);
+    page.put_line(answers);
+    let place = page.place();
+    let _ = pipes::send(&mut rt.stdout(), &out[..place]);
 }
 
 fn ran(rt: HostRuntime, d: Drive, samples: &[i32], lent: usize, out: &mut [u8])
@@ -37,21 +39,21 @@ fn ran(rt: HostRuntime, d: Drive, samples: &[i32], lent: usize, out: &mut [u8])
 }
 
 fn turned_too_far(d: Drive) -> Drive {
-    let mut field = d.field;
-    field.angle = 65536;
-    let mut n = d;
-    n.field = field;
-    n
+    Drive {
+        field: Field {
+            angle: 65536,
+            ..d.field
+        },
+        ..d
+    }
 }
 
 fn tripped(d: Drive) -> Drive {
-    let mut n = d;
-    n.tripped = true;
-    n
+    Drive { tripped: true, ..d }
 }
 
 fn main(rt: HostRuntime) {
-    let Checked::Accepted(s) = settings::check(settings::bench_settings()) else {
+    let Ok(s) = settings::check(settings::bench_settings()) else {
         return;
     };
     let d = drive::fresh(s);

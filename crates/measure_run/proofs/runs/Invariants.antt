@@ -1,12 +1,6 @@
--- `measure_run::runs` is safe and ends.
--- Assumes nothing.
-use Prim.Native.Nat.{◌-◌, ◌≤◌}
-use mathlib.Core.Path.{◌≡◌}
-use lib.ListN.{length}
+-- `measure_run::runs` is safe.
+use Rattle.std.proofs.Common.{◌≤◌}
 use Rattle.measure_run.proofs.runs.Given as goal
 
-abbrev pub invariant-loop-i : goal.invariant-loop-i
-invariant-loop-i l = (l.i ≤ l.times) × (length l.out ≡ length l.initial.out) × (l.start ≤ l.other)
-
-abbrev pub decreases-loop-i : goal.decreases-loop-i
-decreases-loop-i l = l.times - l.i
+abbrev pub invariant-loop : goal.invariant-loop
+invariant-loop l = l.start ≤ l.other
