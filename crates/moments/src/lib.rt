@@ -1,5 +1,6 @@
 // The record of the last moments, beside the drive record: the rows of the last 128 accepted steps. Every call takes any drive, any record and any
-// numbers.
+// numbers. `keep`, `found_at` and `empty_if_accepted` work where the record lies. `recorded_step`, `recorded_clear`, `real_rows` and `moment` take it by
+// value, since the theorems of promises/specs/Settled are of such calls.
 #![tactic(auto)]
 
 ghost use Rattle.std.specs.Prelude.{◌≡◌, ◌<◌, pos};
@@ -168,7 +169,7 @@ pub fn found_at(m: &Moments, i: i32) -> Found
     Found::from(ring::row_place(m.next, m.real, i).map(|at| row_in(m, at)))
 }
 
-// The same of a record by value, as promises/specs/Settled `RowSettled` has the call.
+// The same of a record by value.
 pub fn moment(m: Moments, i: i32) -> Found
     ensures { result ≡ moment_at m i }
 {
