@@ -1,9 +1,9 @@
 // Numbers as text, put on a page: lent bytes and the place in them.
 #![tactic(auto)]
 
-ghost use Rattle.std.specs.Prelude.{◌≡◌, ◌+◌, ◌*◌, ◌≤◌, ◌∷◌, [], nat_abs, length, take};
+ghost use Rattle.std.specs.Prelude.{◌≡◌, ◌+◌, ◌*◌, ◌≤◌, ◌∷◌, [], length};
 ghost use Rattle.writing.specs.Page.{Put, Room};
-ghost use Rattle.writing.specs.Decimal.{count_text, text_of, line_text, bad_text, written};
+ghost use Rattle.writing.specs.Decimal.{count_text, text_of, line_text, bad_text};
 
 // A place in lent bytes: what is put on it is written there, and the place moves behind it.
 #[derive(Drop)]
@@ -124,62 +124,4 @@ fn spell(n: u64, out: &mut [u8])
         out[i] = b'0' + (rest % 10) as u8;
         rest /= 10;
     }
-}
-
-// One byte at a place; answers the place after it, as the next two do.
-pub fn put_byte(b: u8, out: &mut [u8], at: usize) -> usize
-    requires { at + 1 ≤ length out.old }
-    ensures { (result ≡ at + 1) × (out.new ≡ written out.old at (b ∷ [])) }
-{
-    let mut page = Page::new(out, at);
-    page.put_byte(b);
-    page.place()
-}
-
-// A count as text, for which there is room whatever it is.
-pub fn put_count(count: u64, out: &mut [u8], at: usize) -> usize
-    requires { at + 20 ≤ length out.old }
-    ensures { (result ≡ at + length (count_text count)) × (out.new ≡ written out.old at (count_text count)) × (result ≤ at + 20) }
-{
-    let mut page = Page::new(out, at);
-    page.put_count(count);
-    page.place()
-}
-
-// A number without its sign.
-pub fn size(v: i32) -> u64
-    ensures { result ≡ nat_abs v }
-{
-    u64::from(v.unsigned_abs())
-}
-
-// The first k numbers as a line. Twelve places for each are room whatever they are.
-pub fn put_line(numbers: &[i32], k: usize, out: &mut [u8], at: usize) -> usize
-    requires { (1 ≤ k) × (k ≤ length numbers.now) × (at + 12 * k ≤ length out.old) }
-    ensures { (result ≡ at + length (line_text (take k numbers.now)))
-        × (out.new ≡ written out.old at (line_text (take k numbers.now))) × (result ≤ at + 12 * k) }
-{
-    let mut page = Page::new(out, at);
-    page.put_line(&numbers[..k]);
-    page.place()
-}
-
-// Bytes at a place; answers the place after them.
-pub fn put_text(bytes: &[u8], out: &mut [u8], at: usize) -> usize
-    requires { at + length bytes.now ≤ length out.old }
-    ensures { (result ≡ at + length bytes.now) × (out.new ≡ written out.old at bytes.now) }
-{
-    let mut page = Page::new(out, at);
-    page.put_text(bytes);
-    page.place()
-}
-
-// What a refused line is answered, for which there is room whatever its number is.
-pub fn put_bad(number: u64, out: &mut [u8], at: usize) -> usize
-    requires { at + 25 ≤ length out.old }
-    ensures { (result ≡ at + length (bad_text number)) × (out.new ≡ written out.old at (bad_text number)) × (result ≤ at + 25) }
-{
-    let mut page = Page::new(out, at);
-    page.put_bad(number);
-    page.place()
 }
