@@ -3,7 +3,7 @@
 -- numbers, which stand at the front of the slice (`first_numbers`). So what is not refused is such a line (`only`).
 -- Assumes nothing.
 use mathlib.Core.Path.{◌≡◌, refl, sym, ◌∙◌}
-use mathlib.Core.Bool.{Bool, true, false, cond, true≢false}
+use mathlib.Core.Bool.{true, false, cond, true≢false}
 use mathlib.Core.List.{List, [], ◌∷◌, ◌++◌, append_assoc, append-nil}
 use mathlib.Core.Option.{Option, none, some}
 use Prim.Native.Nat.{ℕ, suc, ◌+◌, ◌≤◌, ◌<◌}
@@ -15,7 +15,7 @@ use lib.IntN.{ℤ}
 use lib.ListN.{length, get_or, take, drop, set, length-append, length-drop}
 use lib.Seq.{drop-cons, set_at, take_at}
 use Rattle.text.specs.Grammar.{words_in, both, numbers_of, number_of, line_of}
-use Rattle.text.specs.Automaton.{word_start, word_after, word_ok, word_value, line_start, takes, line_more, line_bad, line_end}
+use Rattle.text.specs.Automaton.{word_start, word_after, word_ok, word_value, line_start, takes, line_bad, line_end}
 use Rattle.text.specs.Automaton.{line_on, numbers_end, line_next, numbers_next, Reading, read_next, read_all, read_end, line_read}
 use Rattle.text.specs.declared.Line.{Line}
 use Rattle.fixed.proofs.Choice.{by_test, by_order}
@@ -42,19 +42,15 @@ unfolding read_all line_next numbers_next
 from_next l ns b bs = refl
 
 -- ════ a line that is bad stays so
-bad_either : (t : Bool) (l m : Line) → l.bad ≡ true → m.bad ≡ true → (cond t l m).bad ≡ true
-bad_either true l m h k = h
-bad_either false l m h k = k
-
 bad_end : (l : Line) (n : ℕ) → l.bad ≡ true → (line_end l n).bad ≡ true
 unfolding line_end
-bad_end l n h = bad_either (takes l n) (line_more l) (line_bad l) h refl
+bad_end l n h = by_test (takes l n) (λ e. rw e h) (λ e. rw e refl)
 
 bad_read : (l : Line) (ns : List ℤ) (bs : List ℕ) → l.bad ≡ true → (from l ns bs).line.bad ≡ true
 unfolding read_all line_next
 bad_read l ns [] h = bad_end l (length ns) h
 bad_read l ns (b ∷ bs) h =
-    bad_read (line_next l b (length ns)) (numbers_next l b ns) bs (bad_either (eqb b 32) (line_end l (length ns)) (line_on l b) (bad_end l (length ns) h) h)
+    bad_read (line_next l b (length ns)) (numbers_next l b ns) bs (by_test (eqb b 32) (λ e. rw e (bad_end l (length ns) h)) (λ e. rw e h))
 
 -- ════ the numbers zs have been read over o, and the bytes p of the word at hand
 abbrev line_at : List ℤ → List ℕ → Line
