@@ -3,7 +3,7 @@
 
 ghost use Rattle.std.specs.Prelude.{◌≡◌, ◌+◌, ◌^◌, ◌≤◌, ◌<◌, length};
 ghost use Rattle.text.specs.Grammar.{is_digit};
-ghost use Rattle.writing.specs.Decimal.{written};
+ghost use Rattle.writing.specs.Page.{Put, Room};
 ghost use Rattle.values.specs.declared.Number.{Number};
 ghost use Rattle.values.specs.Value.{
   digits_of,
@@ -19,6 +19,8 @@ ghost use Rattle.values.specs.Value.{
   gain_text,
   value_text,
 };
+
+use writing::Page;
 
 // What a text is read as: a number, or none.
 #[derive(Clone, Copy)]
@@ -168,42 +170,39 @@ pub fn value(gain_line: bool, s: &[u8]) -> Number
     whole(s)
 }
 
-// The digits of f/4096 behind the point at a place; answers the place after them, as the next two do.
-fn put_fraction(f: u64, out: &mut [u8], at: usize) -> usize
-    requires { (f < 4096) × (at + 12 ≤ length out.old) }
-    ensures { (result ≡ at + length (fraction_digits 12 f)) × (out.new ≡ written out.old at (fraction_digits 12 f)) }
+// The digits of f/4096 behind the point.
+fn put_fraction(page: &mut Page, f: u64)
+    requires { (f < 4096) × Room page.old 12 }
+    ensures { Put page.old page.new (fraction_digits 12 f) }
 {
     let mut rest = f;
-    let mut place = at;
     while 0 < rest {
-        out[place] = b'0' + (rest * 10 / 4096) as u8;
+        page.put_byte(b'0' + (rest * 10 / 4096) as u8);
         rest = rest * 10 % 4096;
-        place += 1;
     }
-    place
 }
 
-fn put_gain(w: u64, out: &mut [u8], at: usize) -> usize
-    requires { at + 33 ≤ length out.old }
-    ensures { (result ≡ at + length (gain_text w)) × (out.new ≡ written out.old at (gain_text w)) }
+fn put_gain(page: &mut Page, w: u64)
+    requires { Room page.old 33 }
+    ensures { Put page.old page.new (gain_text w) }
 {
-    let a = writing::put_count(w / 4096, out, at);
+    page.put_count(w / 4096);
     let f = w % 4096;
-    if f == 0 {
-        return a;
+    if f != 0 {
+        page.put_byte(b'.');
+        put_fraction(page, f);
     }
-    let b = writing::put_byte(b'.', out, a);
-    put_fraction(f, out, b)
 }
 
 // A value as its line has it, for which there is room whatever its word is.
-pub fn put_value(is_gain: bool, w: u64, out: &mut [u8], at: usize) -> usize
-    requires { at + 33 ≤ length out.old }
-    ensures { (result ≡ at + length (value_text is_gain w)) × (out.new ≡ written out.old at (value_text is_gain w))
-        × (result ≤ at + 33) }
+pub fn put_value(page: &mut Page, is_gain: bool, w: u64)
+    requires { Room page.old 33 }
+    ensures put { Put page.old page.new (value_text is_gain w) }
+    ensures bound { page.new.at ≤ page.old.at + 33 }
 {
     if is_gain {
-        return put_gain(w, out, at);
+        put_gain(page, w);
+    } else {
+        page.put_count(w);
     }
-    writing::put_count(w, out, at)
 }

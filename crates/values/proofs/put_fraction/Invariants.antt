@@ -5,7 +5,7 @@ use Rattle.values.proofs.Putting.{Dividing}
 use Rattle.values.proofs.put_fraction.Given as goal
 
 abbrev pub invariant-loop-rest : goal.invariant-loop-rest
-invariant-loop-rest l = Dividing l.f l.at l.initial.out l.out l.rest l.place
+invariant-loop-rest l = Dividing l.f l.initial.page l.rest l.page
 
 abbrev pub decreases-loop-rest : goal.decreases-loop-rest
-decreases-loop-rest l = l.at + 12 - l.place
+decreases-loop-rest l = l.initial.page.at + 12 - l.page.at
