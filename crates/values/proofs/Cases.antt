@@ -5,8 +5,7 @@ use mathlib.Core.List.{List, [], ◌∷◌, map}
 use Prim.Native.Nat.{ℕ}
 use Rattle.text.specs.Grammar.{all_digits, value_of}
 use Rattle.writing.specs.Decimal.{decimal, count_text}
-use Rattle.values.specs.declared.Number.{Number}
-use Rattle.values.specs.declared.Number.TheVariants.{Is, Wrong}
+use Rattle.std.specs.Prelude.{Option, Some, None}
 use Rattle.values.specs.Value.{fraction_digits, fraction_text, gain_text, digits_of, zero_in_front, whole_of, zero_behind, ths_of, fraction_of, before, sum}
 use Rattle.values.specs.Value.{gain_of}
 
@@ -26,8 +25,8 @@ wholes_texts =
     ∷ (49 ∷ 44 ∷ 50 ∷ 53 ∷ 48 ∷ [])
     ∷ []
 
-wholes_numbers : List Number
-wholes_numbers = Is 0 ∷ Is 99999 ∷ Wrong ∷ Wrong ∷ Wrong ∷ Wrong ∷ Wrong ∷ Wrong ∷ Wrong ∷ Wrong ∷ Wrong ∷ []
+wholes_numbers : List (Option ℕ)
+wholes_numbers = Some 0 ∷ Some 99999 ∷ None ∷ None ∷ None ∷ None ∷ None ∷ None ∷ None ∷ None ∷ None ∷ []
 
 -- 0; 99999; 100000; 00; 05; nothing; -1; +1; 1 ; 1.5; 1,250
 wholes : map whole_of wholes_texts ≡ wholes_numbers
@@ -57,10 +56,10 @@ gains_texts =
     ∷ (49 ∷ 48 ∷ 48 ∷ 48 ∷ 48 ∷ 48 ∷ 46 ∷ 53 ∷ [])
     ∷ []
 
-gains_numbers : List Number
+gains_numbers : List (Option ℕ)
 gains_numbers =
-    Is 0 ∷ Is 8192 ∷ Is 2048 ∷ Is 1 ∷ Is 409599999
-    ∷ Wrong ∷ Wrong ∷ Wrong ∷ Wrong ∷ Wrong ∷ Wrong ∷ Wrong ∷ Wrong ∷ Wrong ∷ Wrong ∷ Wrong ∷ Wrong ∷ Wrong ∷ Wrong ∷ []
+    Some 0 ∷ Some 8192 ∷ Some 2048 ∷ Some 1 ∷ Some 409599999
+    ∷ None ∷ None ∷ None ∷ None ∷ None ∷ None ∷ None ∷ None ∷ None ∷ None ∷ None ∷ None ∷ None ∷ None ∷ []
 
 -- 0; 2; 0.5; 0.000244140625; 99999.999755859375; 0.0001; 1.0; 1.50; 1.; .5; .; 1,25; 1,250; 1.5.5; 00.5; -0.5; +0.5; 0.0001220703125; 100000.5
 gains : map gain_of gains_texts ≡ gains_numbers

@@ -18,20 +18,19 @@ use Rattle.writing.specs.Decimal.{digit_of, decimal, count_text}
 use Rattle.fixed.proofs.Choice.{true_or_false, less_or_not}
 use Rattle.writing.proofs.DecimalLaws.{decimal_one, decimal_more, by_digits, decimal_length, length_more, tenth}
 use Rattle.writing.proofs.RoundTrip.{count_digits as all_digits_lem, count_value, count_some}
-use Rattle.values.specs.declared.Number.{Number}
-use Rattle.values.specs.declared.Number.TheVariants.{Is, Wrong}
+use Rattle.std.specs.Prelude.{Option, Some, None}
 use Rattle.values.specs.Value.{top, fraction_digits, fraction_text, gain_text, value_text}
 use Rattle.values.specs.Value.{digits_of, zero_in_front, whole_of, zero_behind, ths_of, fraction_of, before, has, behind, sum, gain_of, number_of}
 
 -- ════ a number that a choice gives
-pub is_wrong : {v : ℕ} → Wrong ≡ Is v → ⊥
-is_wrong e = let z : ◌≡◌ {A = ℕ} 0 1 = cc in omega arith
+pub is_wrong : {v : ℕ} → None ≡ Some v → ⊥
+is_wrong e = cc
 
-pub only_if : (t : Bool) {x : Number} {v : ℕ} → cond t x Wrong ≡ Is v → (t ≡ true) × (x ≡ Is v)
+pub only_if : (t : Bool) {x : Option ℕ} {v : ℕ} → cond t x None ≡ Some v → (t ≡ true) × (x ≡ Some v)
 only_if true e = (refl, e)
 only_if false e = absurd (is_wrong e)
 
-pub only_unless : (t : Bool) {x : Number} {v : ℕ} → cond t Wrong x ≡ Is v → (t ≡ false) × (x ≡ Is v)
+pub only_unless : (t : Bool) {x : Option ℕ} {v : ℕ} → cond t None x ≡ Some v → (t ≡ false) × (x ≡ Some v)
 only_unless false e = (refl, e)
 only_unless true e = absurd (is_wrong e)
 
@@ -42,7 +41,7 @@ pub record Digits (n : ℕ) (bs : List ℕ) (v : ℕ) : Type 0 where
   pub all : all_digits bs ≡ true
   pub value : value_of 0 bs ≡ v
 
-pub digits→ : (n : ℕ) (bs : List ℕ) {v : ℕ} → digits_of n bs ≡ Is v → Digits n bs v
+pub digits→ : (n : ℕ) (bs : List ℕ) {v : ℕ} → digits_of n bs ≡ Some v → Digits n bs v
 unfolding digits_of
 digits→ n bs {v} e =
     let t = only_if (ltb 0 (length bs) && leb (length bs) n && all_digits bs) e in
@@ -54,7 +53,7 @@ digits→ n bs {v} e =
       value = let g = t.1 in cc;
     }
 
-pub digits← : (n : ℕ) (bs : List ℕ) {v : ℕ} → Digits n bs v → digits_of n bs ≡ Is v
+pub digits← : (n : ℕ) (bs : List ℕ) {v : ℕ} → Digits n bs v → digits_of n bs ≡ Some v
 unfolding digits_of
 digits← n bs d = rw (lt-ltb 0 (length bs) d.some, le-leb (length bs) n d.most, d.all, d.value) refl
 
@@ -108,7 +107,7 @@ plain (b ∷ c ∷ cs) {v} z d =
     ∙ ap (λ (l : List ℕ). l ++ (c ∷ cs)) (decimal_one k (b - 48) (omega arith) ∙ ap (λ (x : ℕ). x ∷ []) r))
 
 -- a whole number's text is the only one
-pub whole_only : (bs : List ℕ) {v : ℕ} → whole_of bs ≡ Is v → bs ≡ count_text v
+pub whole_only : (bs : List ℕ) {v : ℕ} → whole_of bs ≡ Some v → bs ≡ count_text v
 unfolding whole_of
 whole_only bs e = let t = only_unless (zero_in_front bs) e in plain bs t.0 (digits→ 5 bs t.1)
 
@@ -140,7 +139,7 @@ count_digits n h = record {
   value = count_value n (omega arith);
 }
 
-pub whole_back : (n : ℕ) → n < 100000 → whole_of (count_text n) ≡ Is n
+pub whole_back : (n : ℕ) → n < 100000 → whole_of (count_text n) ≡ Some n
 unfolding whole_of
 whole_back n h = rw (no_zero n h) (digits← 5 (count_text n) (count_digits n h))
 
@@ -169,7 +168,7 @@ value_less (b ∷ bs) d =
     let m : b - 48 ≤ 9 = omega (arith, digit_hi b i) in
     rw (value_first b bs, pow-suc 10 (length bs)) (omega (arith, mul-le-mul_right (10 ^ length bs) m, value_less bs (and_right (is_digit b) (all_digits bs) d)))
 
-power_some : (n : ℕ) → 0 < 10 ^ n
+pub power_some : (n : ℕ) → 0 < 10 ^ n
 power_some n = omega (arith, one-le-pow n 10 (omega arith))
 
 -- the last digit no zero: so the value is not 0 either
@@ -249,22 +248,22 @@ pub record Fraction (bs : List ℕ) (f : ℕ) : Type 0 where
   pub less : f < 4096
   pub only : fraction_digits 12 f ≡ bs
 
-ths→ : (p : ℕ) (x : Number) {f : ℕ} → ths_of p x ≡ Is f → (v : ℕ) → x ≡ Is v → f * p ≡ v * 4096
+ths→ : (p : ℕ) (x : Option ℕ) {f : ℕ} → ths_of p x ≡ Some f → (v : ℕ) → x ≡ Some v → f * p ≡ v * 4096
 unfolding ths_of
-ths→ p Wrong e v g = absurd (is_wrong e)
-ths→ p (Is u) {f} e v g =
+ths→ p None e v g = absurd (is_wrong e)
+ths→ p (Some u) {f} e v g =
     let t = only_if (eqb (u * 4096 % p) 0) e in
     let z = eqb-true (u * 4096 % p) 0 t.0 in
     let q : u * 4096 / p ≡ f = let h = t.1 in cc in
     let w : u ≡ v = cc in
     ap (λ (x : ℕ). x * p) (sym q) ∙ omega (arith, div-add-mod' (u * 4096) p, z) ∙ ap (λ (x : ℕ). x * 4096) w
 
-ths_some : (p : ℕ) (x : Number) {f : ℕ} → ths_of p x ≡ Is f → (v : ℕ) × (x ≡ Is v)
+ths_some : (p : ℕ) (x : Option ℕ) {f : ℕ} → ths_of p x ≡ Some f → (v : ℕ) × (x ≡ Some v)
 unfolding ths_of
-ths_some p Wrong e = absurd (is_wrong e)
-ths_some p (Is u) e = (u, refl)
+ths_some p None e = absurd (is_wrong e)
+ths_some p (Some u) e = (u, refl)
 
-pub fraction→ : (bs : List ℕ) {f : ℕ} → fraction_of bs ≡ Is f → Fraction bs f
+pub fraction→ : (bs : List ℕ) {f : ℕ} → fraction_of bs ≡ Some f → Fraction bs f
 unfolding fraction_of zero_behind
 fraction→ bs {f} e =
     let t = only_unless (eqb (get_or bs (length bs - 1) 0) 48) e in
@@ -369,7 +368,7 @@ division_last (suc k) f q h l e z =
     last_one x xs e g = rw e at g
 
 -- and so they are read back
-pub fraction_back : (f : ℕ) → 0 < f → f < 4096 → fraction_of (fraction_digits 12 f) ≡ Is f
+pub fraction_back : (f : ℕ) → 0 < f → f < 4096 → fraction_of (fraction_digits 12 f) ≡ Some f
 unfolding fraction_of zero_behind ths_of
 fraction_back f h l =
     let bs = fraction_digits 12 f in
@@ -443,18 +442,18 @@ pub split : (b : ℕ) (xs : List ℕ) → has b xs ≡ true → xs ≡ before b 
 split b xs t = parts b xs (ltb-true (length (before b xs)) (length xs) t)
 
 -- ════ gains
-pub record Summed (x y : Number) (w : ℕ) : Type 0 where
+pub record Summed (x y : Option ℕ) (w : ℕ) : Type 0 where
   pub n : ℕ
   pub f : ℕ
-  pub left : x ≡ Is n
-  pub right : y ≡ Is f
+  pub left : x ≡ Some n
+  pub right : y ≡ Some f
   pub total : n * 4096 + f ≡ w
 
-sum→ : (x y : Number) {w : ℕ} → sum x y ≡ Is w → Summed x y w
+sum→ : (x y : Option ℕ) {w : ℕ} → sum x y ≡ Some w → Summed x y w
 unfolding sum
-sum→ Wrong y e = absurd (is_wrong e)
-sum→ (Is n) Wrong e = absurd (is_wrong e)
-sum→ (Is n) (Is f) e = record { n = n; f = f; left = refl; right = refl; total = cc }
+sum→ None y e = absurd (is_wrong e)
+sum→ (Some n) None e = absurd (is_wrong e)
+sum→ (Some n) (Some f) e = record { n = n; f = f; left = refl; right = refl; total = cc }
 
 pub gain_plain : (n f w : ℕ) → f ≡ 0 → n * 4096 + f ≡ w → gain_text w ≡ count_text n
 unfolding gain_text fraction_text
@@ -471,7 +470,7 @@ gain_point n f w h l e =
     rw (q, r, ne_eqb f 0 (λ z. omega (arith, z, h))) refl
 
 -- a gain's text is the only one
-pub gain_only : (bs : List ℕ) {w : ℕ} → gain_of bs ≡ Is w → bs ≡ gain_text w
+pub gain_only : (bs : List ℕ) {w : ℕ} → gain_of bs ≡ Some w → bs ≡ gain_text w
 unfolding gain_of
 gain_only bs {w} e =
     ⊎_elim (λ t. let s = sum→ (whole_of (before 46 bs)) (fraction_of (behind 46 bs)) (rw t at e) in
@@ -479,12 +478,12 @@ gain_only bs {w} e =
     split 46 bs t
     ∙ ap₂ (λ (x y : List ℕ). x ++ (46 ∷ y)) (whole_only (before 46 bs) s.left) (sym g.only)
     ∙ sym (gain_point s.n s.f w g.some g.less s.total))
-    (λ t. let s = sum→ (whole_of bs) (Is 0) (rw t at e) in
+    (λ t. let s = sum→ (whole_of bs) (Some 0) (rw t at e) in
     let z : s.f ≡ 0 = let r = s.right in cc in
     whole_only bs s.left ∙ sym (gain_plain s.n s.f w z s.total))
     (true_or_false (has 46 bs))
 
-pub gain_back : (w : ℕ) → w < 409600000 → gain_of (gain_text w) ≡ Is w
+pub gain_back : (w : ℕ) → w < 409600000 → gain_of (gain_text w) ≡ Some w
 unfolding gain_of sum
 gain_back w h =
     let n = w / 4096 in
@@ -496,42 +495,43 @@ gain_back w h =
     (λ s. let l : f < 4096 = omega arith in
     let t = count_text n in
     let ds = fraction_digits 12 f in
-    rw (gain_point n f w s l e, has_at 46 t ds free46, behind_at 46 t ds free46, before_at 46 t ds free46, c, fraction_back f s l) (ap Is e))
+    rw (gain_point n f w s l e, has_at 46 t ds free46, behind_at 46 t ds free46, before_at 46 t ds free46, c, fraction_back f s l) (ap Some e))
     (λ s. let z : f ≡ 0 = omega arith in
-    rw (gain_plain n f w z e, has_none 46 (count_text n) free46, c) (ap Is (omega (arith, z, e))))
+    let g : n * 4096 + 0 ≡ w = omega (arith, z, e) in
+    rw (gain_plain n f w z e, has_none 46 (count_text n) free46, c) (ap Some g))
     (less_or_not 0 f)
 
 -- ════ values
 pub power_most : (i k : ℕ) → i ≤ k → 10 ^ i ≤ 10 ^ k
 power_most i k h = pow-le-pow_right (omega arith) h
 
-pub whole_less : (s : List ℕ) (n : ℕ) → whole_of s ≡ Is n → n < 100000
+pub whole_less : (s : List ℕ) (n : ℕ) → whole_of s ≡ Some n → n < 100000
 unfolding whole_of
 whole_less s n e =
     let d = digits→ 5 s (only_unless (zero_in_front s) e).1 in
     omega (arith, d.value, value_less s d.all, power_most (length s) 5 d.most)
 
-gain_less : (bs : List ℕ) (w : ℕ) → gain_of bs ≡ Is w → w < 409600000
+gain_less : (bs : List ℕ) (w : ℕ) → gain_of bs ≡ Some w → w < 409600000
 unfolding gain_of
 gain_less bs w e =
     ⊎_elim (λ t. let s = sum→ (whole_of (before 46 bs)) (fraction_of (behind 46 bs)) (rw t at e) in
     omega (arith, s.total, whole_less (before 46 bs) s.n s.left, (fraction→ (behind 46 bs) s.right).less))
-    (λ t. let s = sum→ (whole_of bs) (Is 0) (rw t at e) in
+    (λ t. let s = sum→ (whole_of bs) (Some 0) (rw t at e) in
     let z : s.f ≡ 0 = let r = s.right in cc in
     omega (arith, s.total, whole_less bs s.n s.left))
     (true_or_false (has 46 bs))
 
-pub value_top : (gain : Bool) (bs : List ℕ) (w : ℕ) → number_of gain bs ≡ Is w → w < top gain
+pub value_top : (gain : Bool) (bs : List ℕ) (w : ℕ) → number_of gain bs ≡ Some w → w < top gain
 unfolding number_of
 value_top true bs w e = gain_less bs w e
 value_top false bs w e = whole_less bs w e
 
-pub value_only : (gain : Bool) (bs : List ℕ) {w : ℕ} → number_of gain bs ≡ Is w → bs ≡ value_text gain w
+pub value_only : (gain : Bool) (bs : List ℕ) {w : ℕ} → number_of gain bs ≡ Some w → bs ≡ value_text gain w
 unfolding number_of value_text
 value_only true bs e = gain_only bs e
 value_only false bs e = whole_only bs e
 
-pub value_back : (gain : Bool) (w : ℕ) → w < top gain → number_of gain (value_text gain w) ≡ Is w
+pub value_back : (gain : Bool) (w : ℕ) → w < top gain → number_of gain (value_text gain w) ≡ Some w
 unfolding number_of value_text
 value_back true w h = gain_back w h
 value_back false w h = whole_back w h
@@ -540,7 +540,7 @@ free_count : (b n : ℕ) → b < 48 → free b (count_text n) ≡ true
 free_count b n h = free_digits b (count_text n) h (all_digits_lem n)
 
 -- the texts that are values are the texts of the numbers that a value can be
-pub value_exact : (gain : Bool) (bs : List ℕ) (w : ℕ) → (number_of gain bs ≡ Is w) ↔ ((w < top gain) × (bs ≡ value_text gain w))
+pub value_exact : (gain : Bool) (bs : List ℕ) (w : ℕ) → (number_of gain bs ≡ Some w) ↔ ((w < top gain) × (bs ≡ value_text gain w))
 value_exact gain bs w = (λ e. (value_top gain bs w e, value_only gain bs e), λ h. ap (number_of gain) h.1 ∙ value_back gain w h.0)
 
 -- only digits and a point

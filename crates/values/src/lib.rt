@@ -1,18 +1,14 @@
 // Values: how a whole number and a gain of a sheet are read and written.
 #![tactic(auto)]
 
-ghost use Rattle.std.specs.Prelude.{◌≡◌, ◌+◌, ◌^◌, ◌≤◌, ◌<◌, length};
-ghost use Rattle.text.specs.Grammar.{is_digit};
+ghost use Rattle.std.specs.Prelude.{◌≡◌, ◌+◌, ◌^◌, ◌≤◌, ◌<◌, Some, length};
 ghost use Rattle.writing.specs.Page.{Put, Room};
-ghost use Rattle.values.specs.declared.Number.{Number};
 ghost use Rattle.values.specs.Value.{
   digits_of,
   whole_of,
   ths_of,
   fraction_of,
   before,
-  sum as sum_of,
-  Summands,
   gain_of,
   number_of,
   fraction_digits,
@@ -22,152 +18,85 @@ ghost use Rattle.values.specs.Value.{
 
 use writing::Page;
 
-// What a text is read as: a number, or none.
-#[derive(Clone, Copy)]
-pub enum Number {
-    Is(u64),
-    Wrong,
-}
-
 // How many bytes stand in front of the first b; all of them where there is none.
 pub fn find(s: &[u8], b: u8) -> usize
     ensures { result ≡ length (before b s.now) }
 {
-    let mut i = 0;
-    while i < s.len() {
-        if s[i] == b {
-            return i;
-        }
-        i += 1;
-    }
-    i
-}
-
-fn is_digit(b: u8) -> bool
-    ensures { result ≡ is_digit b }
-{
-    (b'0' <= b) & (b <= b'9')
+    s.iter().position(|c| *c == b).unwrap_or(s.len())
 }
 
 // One to n digits: their number.
-fn digits(s: &[u8], n: usize) -> Number
+fn digits(s: &[u8], n: usize) -> Option<u64>
     requires { n ≤ 12 }
     ensures { result ≡ digits_of n s.now }
 {
-    if s.len() < 1 {
-        return Number::Wrong;
-    }
-    if n < s.len() {
-        return Number::Wrong;
+    if s.is_empty() || n < s.len() {
+        return None;
     }
     let mut value: u64 = 0;
-    let mut i = 0;
-    while i < s.len() {
-        if !is_digit(s[i]) {
-            return Number::Wrong;
+    for b in s {
+        if !b.is_ascii_digit() {
+            return None;
         }
-        value = value * 10 + (s[i] - b'0') as u64;
-        i += 1;
+        value = value * 10 + u64::from(*b - b'0');
     }
-    Number::Is(value)
+    Some(value)
 }
 
 // A whole number: one to five digits, no zero before another digit.
 #[tactic(auto, unfolding(crate::specs::Value::whole_of, crate::specs::Value::zero_in_front))]
-fn whole(s: &[u8]) -> Number
+fn whole(s: &[u8]) -> Option<u64>
     ensures { result ≡ whole_of s.now }
 {
-    if s.len() < 2 {
-        return digits(s, 5);
-    }
-    if s[0] == b'0' {
-        return Number::Wrong;
+    if 1 < s.len() && s[0] == b'0' {
+        return None;
     }
     digits(s, 5)
 }
 
-// 10^n.
-fn power(n: usize) -> u64
-    requires { n ≤ 12 }
-    ensures { result ≡ 10 ^ n }
-{
-    let mut p: u64 = 1;
-    let mut i = 0;
-    while i < n {
-        p *= 10;
-        i += 1;
-    }
-    p
-}
-
 // v/10^n as 4096ths, if that is a whole number of them.
-#[tactic(auto, unfolding(crate::specs::Value::ths_of))]
-fn ths(v: u64, n: usize) -> Number
+#[tactic(auto, using(crate::proofs::ValueLaws::power_some), unfolding(crate::specs::Value::ths_of))]
+fn ths(v: u64, n: usize) -> Option<u64>
     requires { (v < 10 ^ 12) × (n ≤ 12) }
-    ensures { result ≡ ths_of (10 ^ n) (Number.Is v) }
+    ensures { result ≡ ths_of (10 ^ n) (Some v) }
 {
-    let p = power(n);
+    let p = 10u64.pow(n as u32);
     let w = v * 4096;
-    if w % p == 0 {
-        return Number::Is(w / p);
-    }
-    Number::Wrong
+    if w % p == 0 { Some(w / p) } else { None }
 }
 
 // What stands behind a point: one to twelve digits, the last of them no zero, that make a whole number of 4096ths.
 #[tactic(auto, using(crate::proofs::CodeLaws::fractions))]
-fn fraction(s: &[u8]) -> Number
+fn fraction(s: &[u8]) -> Option<u64>
     ensures { result ≡ fraction_of s.now }
 {
-    let n = s.len();
-    if n < 1 {
-        return Number::Wrong;
+    let v = digits(s, 12)?;
+    if s.ends_with(b"0") {
+        None
+    } else {
+        ths(v, s.len())
     }
-    if s[n - 1] == b'0' {
-        return Number::Wrong;
-    }
-    let d = digits(s, 12);
-    let Number::Is(v) = d else {
-        return Number::Wrong;
-    };
-    ths(v, n)
-}
-
-// A whole number and the 4096ths behind its point, as 4096ths.
-fn sum(w: Number, f: Number) -> Number
-    requires { Summands w f }
-    ensures { result ≡ sum_of w f }
-{
-    let Number::Is(a) = w else {
-        return Number::Wrong;
-    };
-    let Number::Is(b) = f else {
-        return Number::Wrong;
-    };
-    Number::Is(a * 4096 + b)
 }
 
 // A gain: a whole number, and then nothing or a point and what may stand behind one.
-fn gain(s: &[u8]) -> Number
+#[tactic(auto, using(crate::proofs::CodeLaws::gains))]
+fn gain(s: &[u8]) -> Option<u64>
     ensures { result ≡ gain_of s.now }
 {
     let p = find(s, b'.');
     if p < s.len() {
-        let w = whole(&s[..p]);
-        let f = fraction(&s[p + 1..]);
-        return sum(w, f);
+        Some(whole(&s[..p])? * 4096 + fraction(&s[p + 1..])?)
+    } else {
+        Some(whole(s)? * 4096)
     }
-    sum(whole(s), Number::Is(0))
 }
 
 // A value: a gain, or a whole number where the line has no gain.
-pub fn value(gain_line: bool, s: &[u8]) -> Number
+#[tactic(auto, unfolding(crate::specs::Value::number_of))]
+pub fn value(gain_line: bool, s: &[u8]) -> Option<u64>
     ensures { result ≡ number_of gain_line s.now }
 {
-    if gain_line {
-        return gain(s);
-    }
-    whole(s)
+    if gain_line { gain(s) } else { whole(s) }
 }
 
 // The digits of f/4096 behind the point.
