@@ -9,9 +9,10 @@ use Rattle.fixed.proofs.HeldLaws.{and_both, equal_is}
 use Rattle.fixed.proofs.LadderLaws.{all_pass_lem, answered_by_lem}
 use Rattle.fixed.proofs.Ranges.{In, two, three, four}
 use Rattle.settings.specs.declared.Settings.{Settings}
-use Rattle.std.specs.Prelude.{Ok, Err, is_ok}
+use Rattle.std.specs.Prelude.{Result, Ok, Err, is_ok, List, [], ◌∷◌}
+use Rattle.fixed.specs.Ladder.{Rung, unless, first_of, all_pass}
 use Rattle.fixed.specs.declared.refusal.Refusal.{Refusal}
-use Rattle.fixed.specs.Refusal.{reason, refuse}
+use Rattle.fixed.specs.Refusal.{number_of, reason, refuse}
 use Rattle.settings.specs.Ranges as range
 use Rattle.settings.specs.Settings.{period_ok, gain_ok, gains_ok, tied, gains_tied, limits_ok, rest_ok, refusals, refusal, accepted, checked}
 
@@ -107,3 +108,19 @@ checked_refused s r h = by (accepted s) refl (sym (checked_is s) ∙ h)
     by : (b : Bool) → accepted s ≡ b → cond b (Ok s) (refuse (refusal s)) ≡ Err r → (accepted s ≡ false) × (r ≡ reason (refusal s))
     by true e h = absurd (let z : ◌≡◌ {A = Bool} true false = cc in true≢false z)
     by false e h = (e, cc)
+
+-- and the reason's number is theirs
+pub refusal_number : (s : Settings) → accepted s ≡ false → number_of (reason (refusal s)) ≡ refusal s
+unfolding accepted refusal
+refusal_number s = by (period_ok s) (gains_ok s) (gains_tied s) (limits_ok s) (rest_ok s)
+  where
+    rungs : (a b c d e : Bool) → List (Rung (Result Settings Refusal))
+    rungs a b c d e = unless a 1 refuse ∷ unless b 2 refuse ∷ unless c 3 refuse ∷ unless d 4 refuse ∷ unless e 5 refuse ∷ []
+
+    by : (a b c d e : Bool) → all_pass (rungs a b c d e) ≡ false → number_of (reason (pos (first_of (rungs a b c d e)))) ≡ pos (first_of (rungs a b c d e))
+    by false b c d e h = refl
+    by true false c d e h = refl
+    by true true false d e h = refl
+    by true true true false e h = refl
+    by true true true true false h = refl
+    by true true true true true h = absurd (true≢false h)

@@ -7,18 +7,21 @@ use lib.IntN.{pos}
 use lib.ListN.{length, take, drop, replicate}
 use Rattle.settings.specs.BenchSettings.{bench_settings, bench_with}
 use Rattle.settings.specs.Settings.{accepted, refusal, period_ok, gains_ok, gain_ok, gains_tied, tied, limits_ok, rest_ok}
+use Rattle.settings.specs.declared.Settings.{Settings}
 use Rattle.settings.specs.Words.{entries, words_of, settings_of}
 use Rattle.settings.proofs.AtBench.{bench_accepted as bench_good}
 use Rattle.text.specs.Grammar.{all_digits, value_of}
 use Rattle.writing.specs.Decimal.{decimal, count_text}
-use Rattle.sheet.specs.declared.Outcome.{Outcome}
-use Rattle.sheet.specs.declared.Outcome.TheVariants.{Read, Refused, Faulty}
-use Rattle.sheet.specs.declared.Wrote.TheVariants.{Length, Barred, Short}
+use Rattle.fixed.specs.declared.refusal.Refusal.TheVariants.{Period, Gains, Untied, Limits, Rest}
+use Rattle.sheet.specs.declared.Unread.{Unread}
+use Rattle.sheet.specs.declared.Unread.TheVariants.{Refused, Faulty}
+use Rattle.sheet.specs.declared.Unwritten.TheVariants.{Barred, Short}
 use Rattle.values.specs.Value.{fraction_digits, fraction_text, gain_text, value_text}
 use Rattle.values.specs.Value.{digits_of, zero_in_front, whole_of, zero_behind, ths_of, fraction_of, before, sum, gain_of, number_of}
 use Rattle.sheet.specs.Sheet.{wrote, sheet_in}
 use Rattle.sheet.specs.Sheet.{line_text, lines_text, sheet_text}
 use Rattle.sheet.specs.Sheet.{starts, line_of, first_of, and_then, with_first, read_lines, settings_in, lines_of, judged, outcome, read_sheet}
+use Rattle.std.specs.Prelude.{Result, Ok, Err}
 
 -- ════ sheets
 -- the bench set
@@ -67,24 +70,24 @@ sheets =
     ∷ (take 117 sheet ++ (82 ∷ 61 ∷ 48 ∷ 10 ∷ []))
     ∷ []
 
-outcomes : List Outcome
+outcomes : List (Result Settings Unread)
 outcomes =
-    Read bench_settings
-    ∷ Faulty 1
-    ∷ Faulty 15
-    ∷ Faulty 3
-    ∷ Faulty 15
-    ∷ Faulty 4
-    ∷ Faulty 8
-    ∷ Faulty 16
-    ∷ Faulty 1
-    ∷ Faulty 2
-    ∷ Faulty 1
-    ∷ Refused (pos 1)
-    ∷ Refused (pos 2)
-    ∷ Refused (pos 3)
-    ∷ Refused (pos 4)
-    ∷ Refused (pos 5)
+    Ok bench_settings
+    ∷ Err (Faulty 1)
+    ∷ Err (Faulty 15)
+    ∷ Err (Faulty 3)
+    ∷ Err (Faulty 15)
+    ∷ Err (Faulty 4)
+    ∷ Err (Faulty 8)
+    ∷ Err (Faulty 16)
+    ∷ Err (Faulty 1)
+    ∷ Err (Faulty 2)
+    ∷ Err (Faulty 1)
+    ∷ Err (Refused Period)
+    ∷ Err (Refused Gains)
+    ∷ Err (Refused Untied)
+    ∷ Err (Refused Limits)
+    ∷ Err (Refused Rest)
     ∷ []
 
 sheets_read : map read_sheet sheets ≡ outcomes
@@ -98,15 +101,15 @@ length_written : length (sheet_text bench_settings) ≡ 122
 unfolding sheet
 length_written = ap length bench_written
 
-just_room : wrote bench_settings 122 ≡ Length 122
+just_room : wrote bench_settings 122 ≡ Ok 122
 unfolding wrote
 just_room = rw (length_written, bench_good) refl
 
-too_short : (wrote bench_settings 121 ≡ Short) × (sheet_in bench_settings (replicate 121 7) ≡ replicate 121 7)
+too_short : (wrote bench_settings 121 ≡ Err Short) × (sheet_in bench_settings (replicate 121 7) ≡ replicate 121 7)
 unfolding wrote sheet_in
 too_short = (rw (length_written, bench_good) refl, rw (length_written, bench_good) refl)
 
 -- current gains that are not tied
-refused_first : wrote (bench_with (pos 16384) (pos 512) (pos 512)) 0 ≡ Barred (pos 3)
+refused_first : wrote (bench_with (pos 16384) (pos 512) (pos 512)) 0 ≡ Err (Barred Untied)
 unfolding wrote accepted refusal period_ok gains_ok gain_ok gains_tied tied
 refused_first = refl

@@ -12,14 +12,13 @@ use Rattle.fixed.proofs.HeldLaws.{and_left, and_right}
 use Rattle.settings.specs.Words.{Entry, entries, key}
 use Rattle.writing.specs.Decimal.{count_text}
 use Rattle.writing.proofs.DecimalLaws.{decimal_length}
-use Rattle.values.specs.declared.Number.{Number}
-use Rattle.values.specs.declared.Number.TheVariants.{Is, Wrong}
 use Rattle.values.specs.Value.{top, behind, gain_text, value_text}
 use Rattle.sheet.specs.Sheet.{line_text, first_of, Words, with_first, read_lines, settings_in, lines_of, outcome, read_sheet}
 use Rattle.values.proofs.ValueLaws.{free, is_wrong}
 use Rattle.sheet.proofs.SheetLaws.{plain, first_back, rest_back, first_only, first_top, no_feeds, count_entries}
 use Rattle.values.proofs.Putting.{fraction_length}
 use Rattle.sheet.proofs.CodeLaws.{short, own_short}
+use Rattle.std.specs.Prelude.{Option, Some, None}
 
 value_long : (gain : Bool) (w : ℕ) → w < top gain → length (value_text gain w) ≤ 18
 unfolding value_text gain_text count_text
@@ -45,12 +44,12 @@ take_front (suc n) (x ∷ xs) ys h = ap (λ (l : List ℕ). x ∷ l) (take_front
     off n k = omega arith
 
 -- a first line that is not good is not good in the first n bytes either
-still_wrong : (e : Entry) (bs : List ℕ) (n : ℕ) → free 10 e.name ≡ true → first_of e bs ≡ Wrong → first_of e (take n bs) ≡ Wrong
+still_wrong : (e : Entry) (bs : List ℕ) (n : ℕ) → free 10 e.name ≡ true → first_of e bs ≡ None → first_of e (take n bs) ≡ None
 still_wrong e bs n f h = by (first_of e (take n bs)) refl
   where
-    by : (x : Number) → first_of e (take n bs) ≡ x → first_of e (take n bs) ≡ Wrong
-    by Wrong g = g
-    by (Is w) g =
+    by : (x : Option ℕ) → first_of e (take n bs) ≡ x → first_of e (take n bs) ≡ None
+    by None g = g
+    by (Some w) g =
         let t = sym (take-append-drop n bs) ∙ ap (λ (l : List ℕ). l ++ drop n bs) (first_only e (take n bs) g)
         ∙ append_assoc (line_text e w) (behind 10 (take n bs)) (drop n bs) in
         absurd (is_wrong (sym h ∙ ap (first_of e) t ∙ first_back e w _ (first_top e (take n bs) w g) f))
@@ -65,10 +64,10 @@ none i (suc n) (b ∷ bs) h = refl
 pub record Cut (e : Entry) (bs : List ℕ) (n w : ℕ) : Type 0 where
   pub m : ℕ
   pub few : n ≤ m + 25
-  pub first : first_of e (take n bs) ≡ Is w
+  pub first : first_of e (take n bs) ≡ Some w
   pub rest : behind 10 (take n bs) ≡ take m (behind 10 bs)
 
-pub cut_line : (e : Entry) (bs : List ℕ) (n w : ℕ) → free 10 e.name ≡ true → length (key e) ≤ 6 → 25 ≤ n → first_of e bs ≡ Is w → Cut e bs n w
+pub cut_line : (e : Entry) (bs : List ℕ) (n w : ℕ) → free 10 e.name ≡ true → length (key e) ≤ 6 → 25 ≤ n → first_of e bs ≡ Some w → Cut e bs n w
 cut_line e bs n w f six h g =
     let r = behind 10 bs in
     let m = n - length (line_text e w) in
@@ -107,13 +106,13 @@ settled i n [] bs p k h = none i n bs (omega (arith, h))
 settled i n (e ∷ es) bs p k h =
     by (first_of e bs) refl (λ m l. settled (i + 1) m es (behind 10 bs) (others_free e es p k) (others_short e es p k) l)
   where
-    by : (x : Number) → first_of e bs ≡ x
+    by : (x : Option ℕ) → first_of e bs ≡ x
         → ((m : ℕ) → 25 * length es + 1 ≤ m → read_lines (i + 1) es (take m (behind 10 bs)) ≡ read_lines (i + 1) es (behind 10 bs))
         → read_lines i (e ∷ es) (take n bs) ≡ read_lines i (e ∷ es) bs
-    by Wrong g more = rw (g, still_wrong e bs n (its_free e es p k) g) refl
-    by (Is w) g more =
+    by None g more = rw (g, still_wrong e bs n (its_free e es p k) g) refl
+    by (Some w) g more =
         let c = cut_line e bs n w (its_free e es p k) (its_key e es p k) (omega (arith, h)) g in
-        rw (c.first, c.rest, g) (ap (λ (ls : Words). with_first i (Is w) ls) (more c.m (omega (arith, c.few, h))))
+        rw (c.first, c.rest, g) (ap (λ (ls : Words). with_first i (Some w) ls) (more c.m (omega (arith, c.few, h))))
 
 pub lines_early : (bs : List ℕ) (n : ℕ) → 500 ≤ n → lines_of (take n bs) ≡ lines_of bs
 unfolding lines_of

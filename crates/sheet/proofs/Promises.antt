@@ -13,7 +13,7 @@ use Rattle.settings.specs.declared.Settings.{Settings}
 use Rattle.settings.specs.Settings.{accepted, refusal, period_ok}
 use Rattle.settings.specs.Words.{settings_of}
 use Rattle.writing.specs.Decimal.{written}
-use Rattle.sheet.specs.declared.Outcome.TheVariants.{Read, Refused, Faulty}
+use Rattle.sheet.specs.declared.Unread.TheVariants.{Refused, Faulty}
 use Rattle.sheet.specs.Sheet.{sheet_text, read_sheet, sheet_in}
 use Rattle.sheet.specs.Calls.{no_settings, reading_of}
 use Rattle.sheet.specs.Promised as is
@@ -22,6 +22,7 @@ use Rattle.sheet.proofs.SheetLaws as law
 use Rattle.sheet.proofs.Putting.{front, barred}
 use Rattle.sheet.proofs.Sizes as sizes
 use Rattle.sheet.proofs.Early.{sheet_early}
+use Rattle.std.specs.Prelude.{Err, Ok}
 
 pub one_text : is.OneText
 one_text = value.value_exact
@@ -93,6 +94,6 @@ zeros_refused = refl
 
 pub none_without_0 : is.NoneWithout0
 unfolding reading_of
-none_without_0 (Read s) h = absurd (h s refl)
-none_without_0 (Refused n) h = zeros_refused
-none_without_0 (Faulty i) h = zeros_refused
+none_without_0 (Ok s) h = absurd (h s refl)
+none_without_0 (Err (Refused n)) h = zeros_refused
+none_without_0 (Err (Faulty i)) h = zeros_refused

@@ -13,12 +13,14 @@ use lib.ListN.{length, get_or, take, drop, length-append}
 use lib.Seq.{take-suc, take_all, take-append_seam, length-take-le}
 use Rattle.writing.specs.Decimal.{written}
 use Rattle.writing.proofs.Written.{written_none, written_then}
+use Rattle.fixed.specs.Refusal.{reason}
 use Rattle.settings.specs.declared.Settings.{Settings}
 use Rattle.settings.specs.Settings.{accepted, refusal}
 use Rattle.settings.specs.Words.{Entry, entries, no_entry, entry_at, size as line_count}
-use Rattle.sheet.specs.declared.Wrote.TheVariants.{Length, Barred, Short}
+use Rattle.sheet.specs.declared.Unwritten.TheVariants.{Barred, Short}
 use Rattle.sheet.specs.Sheet.{line_text, lines_text, sheet_text, wrote, sheet_in}
 use Rattle.sheet.proofs.SheetLaws.{count_entries}
+use Rattle.std.specs.Prelude.{Err, Ok}
 
 -- ════ all lines
 lines_more : (es : List Entry) (zs : List ℤ) (e : Entry) (z : ℤ) → length es ≡ length zs
@@ -93,17 +95,17 @@ front o bs = take-append_seam bs (drop (0 + length bs) o)
 
 -- ════ what is answered, and what stands in the buffer
 module _ (s : Settings) (out : List ℕ) where
-  pub barred : accepted s ≡ false → (Barred (refusal s) ≡ wrote s (length out)) × (out ≡ sheet_in s out)
+  pub barred : accepted s ≡ false → (Err (Barred (reason (refusal s))) ≡ wrote s (length out)) × (out ≡ sheet_in s out)
   unfolding wrote sheet_in
   barred a = (rw a refl, rw a refl)
 
-  pub too_short : accepted s ≡ true → length out < length (sheet_text s) → (Short ≡ wrote s (length out)) × (out ≡ sheet_in s out)
+  pub too_short : accepted s ≡ true → length out < length (sheet_text s) → ((Err Short) ≡ wrote s (length out)) × (out ≡ sheet_in s out)
   unfolding wrote sheet_in
   too_short a h = let t = lt-leb (length (sheet_text s)) (length out) h in (simp (a, t), simp (a, t))
 
   pub in-full : {end : List ℕ} {n : ℕ} → accepted s ≡ true → length (sheet_text s) ≤ length out → n ≡ 0 + length (sheet_text s)
-      → end ≡ written out 0 (sheet_text s) → (Length n ≡ wrote s (length out)) × (end ≡ sheet_in s out)
+      → end ≡ written out 0 (sheet_text s) → (Ok n ≡ wrote s (length out)) × (end ≡ sheet_in s out)
   unfolding wrote sheet_in
   in-full a h e f =
       let t = le-leb (length (sheet_text s)) (length out) h in
-      (rw (a, t) (ap Length (e ∙ zero-add (length (sheet_text s)))), rw (a, t) f)
+      (rw (a, t) (ap Ok (e ∙ zero-add (length (sheet_text s)))), rw (a, t) f)

@@ -20,19 +20,20 @@ use Rattle.fixed.proofs.Ranges.{in-up, in_size}
 use Rattle.settings.specs.declared.Settings.{Settings}
 use Rattle.settings.specs.Settings.{accepted, refusal}
 use Rattle.settings.specs.Words.{Entry, entries, size, key, words_of, settings_of, all_in}
+use Rattle.fixed.specs.declared.refusal.Refusal.{Refusal}
+use Rattle.fixed.specs.Refusal.{number_of, reason}
+use Rattle.fixed.proofs.RefusalLaws.{reason_back}
 use Rattle.settings.proofs.Names.{all_in_lem}
+use Rattle.settings.proofs.Ranges.{refusal_number}
 use Rattle.settings.proofs.WordLaws.{settings_words}
-use Rattle.values.specs.declared.Number.{Number}
-use Rattle.values.specs.declared.Number.TheVariants.{Is, Wrong}
-use Rattle.sheet.specs.declared.Found.{Found}
-use Rattle.sheet.specs.declared.Found.TheVariants.{Good, Bad}
-use Rattle.sheet.specs.declared.Outcome.TheVariants.{Read, Refused, Faulty}
-use Rattle.sheet.specs.declared.Wrote.TheVariants.{Length, Short}
+use Rattle.sheet.specs.declared.Unread.TheVariants.{Refused, Faulty}
+use Rattle.sheet.specs.declared.Unwritten.TheVariants.{Short}
 use Rattle.values.specs.Value.{top, value_text, before, has, behind}
 use Rattle.sheet.specs.Sheet.{line_text, lines_text, sheet_text, starts, line_of, first_of, Words, words, faulty, and_then, with_first, read_lines}
 use Rattle.sheet.specs.Sheet.{settings_in, lines_of, judged, outcome, read_sheet, wrote, sheet_in}
 use Rattle.sheet.specs.Faults.{FirstFault, over, here, later}
 use Rattle.values.proofs.ValueLaws.{is_wrong, only_if, free, free_both, before_at, has_at, behind_at, split, value_top, value_only, value_back, value_free}
+use Rattle.std.specs.Prelude.{Option, Result, Some, None, Ok, Err}
 
 -- ════ a line
 pub starts_own : (ns bs : List ℕ) → starts ns (ns ++ bs) ≡ true
@@ -47,12 +48,12 @@ starts→ (n ∷ ns) [] t = absurd (true≢false (sym t))
 starts→ (n ∷ ns) (b ∷ bs) t =
     ap₂ (λ (x : ℕ) (l : List ℕ). x ∷ l) (sym (eqb-true n b (and_left (eqb n b) (starts ns bs) t))) (starts→ ns bs (and_right (eqb n b) (starts ns bs) t))
 
-line_back : (e : Entry) (w : ℕ) → w < top e.gain → line_of e (key e ++ value_text e.gain w) ≡ Is w
+line_back : (e : Entry) (w : ℕ) → w < top e.gain → line_of e (key e ++ value_text e.gain w) ≡ Some w
 unfolding line_of
 line_back e w h =
     rw (starts_own (key e) (value_text e.gain w), drop_at (key e) (value_text e.gain w) (length (key e)) refl) (value_back e.gain w h)
 
-line_only : (e : Entry) (bs : List ℕ) {w : ℕ} → line_of e bs ≡ Is w → bs ≡ key e ++ value_text e.gain w
+line_only : (e : Entry) (bs : List ℕ) {w : ℕ} → line_of e bs ≡ Some w → bs ≡ key e ++ value_text e.gain w
 unfolding line_of
 line_only e bs h =
     let t = only_if (starts (key e) bs) h in
@@ -71,7 +72,7 @@ line_whole : (e : Entry) (w : ℕ) (bs : List ℕ) → line_text e w ++ bs ≡ (
 unfolding line_text
 line_whole e w bs = simp append_assoc
 
-pub first_back : (e : Entry) (w : ℕ) (bs : List ℕ) → w < top e.gain → free 10 e.name ≡ true → first_of e (line_text e w ++ bs) ≡ Is w
+pub first_back : (e : Entry) (w : ℕ) (bs : List ℕ) → w < top e.gain → free 10 e.name ≡ true → first_of e (line_text e w ++ bs) ≡ Some w
 unfolding first_of
 first_back e w bs h n =
     let l = key e ++ value_text e.gain w in
@@ -81,7 +82,7 @@ first_back e w bs h n =
 pub rest_back : (e : Entry) (w : ℕ) (bs : List ℕ) → free 10 e.name ≡ true → behind 10 (line_text e w ++ bs) ≡ bs
 rest_back e w bs n = rw (line_whole e w bs) (behind_at 10 (key e ++ value_text e.gain w) bs (free_line 10 e w (omega arith) n))
 
-pub first_only : (e : Entry) (bs : List ℕ) {w : ℕ} → first_of e bs ≡ Is w → bs ≡ line_text e w ++ behind 10 bs
+pub first_only : (e : Entry) (bs : List ℕ) {w : ℕ} → first_of e bs ≡ Some w → bs ≡ line_text e w ++ behind 10 bs
 unfolding first_of
 first_only e bs {w} h =
     let t = only_if (has 10 bs) h in
@@ -125,18 +126,18 @@ pub record Whole (es : List Entry) (bs : List ℕ) (zs : List ℤ) : Type 0 wher
 not_words : {i : ℕ} {zs : List ℤ} → faulty i ≡ words zs → ⊥
 not_words e = let z : ◌≡◌ {A = ℕ} 0 1 = cc in omega arith
 
-pub record Fronted (x : Number) (ls : Words) (zs : List ℤ) : Type 0 where
+pub record Fronted (x : Option ℕ) (ls : Words) (zs : List ℤ) : Type 0 where
   pub w : ℕ
   pub more : List ℤ
-  pub front : x ≡ Is w
+  pub front : x ≡ Some w
   pub others : ls ≡ words more
   pub both : zs ≡ pos w ∷ more
 
-fronted : (i : ℕ) (x : Number) (ls : Words) {zs : List ℤ} → with_first i x ls ≡ words zs → Fronted x ls zs
+fronted : (i : ℕ) (x : Option ℕ) (ls : Words) {zs : List ℤ} → with_first i x ls ≡ words zs → Fronted x ls zs
 unfolding with_first and_then
-fronted i Wrong ls e = absurd (not_words e)
-fronted i (Is w) (words more) e = record { w = w; more = more; front = refl; others = refl; both = cc }
-fronted i (Is w) (faulty j) e = absurd (not_words e)
+fronted i None ls e = absurd (not_words e)
+fronted i (Some w) (words more) e = record { w = w; more = more; front = refl; others = refl; both = cc }
+fronted i (Some w) (faulty j) e = absurd (not_words e)
 
 pub lines_only : (i : ℕ) (es : List Entry) (bs : List ℕ) {zs : List ℤ} → read_lines i es bs ≡ words zs → Whole es bs zs
 unfolding read_lines lines_text
@@ -151,7 +152,7 @@ lines_only i (x ∷ es) bs {zs} e =
     }
 
 -- ════ the first faulty line
-pub first_top : (e : Entry) (bs : List ℕ) (w : ℕ) → first_of e bs ≡ Is w → w < top e.gain
+pub first_top : (e : Entry) (bs : List ℕ) (w : ℕ) → first_of e bs ≡ Some w → w < top e.gain
 unfolding first_of line_of
 first_top e bs w h =
     let t = only_if (has 10 bs) h in
@@ -159,15 +160,15 @@ first_top e bs w h =
     value_top e.gain (drop (length (key e)) (before 10 bs)) w u.1
 
 -- what the first line makes of the others
-fault_by : (i j : ℕ) (e : Entry) (es : List Entry) (bs : List ℕ) → free 10 e.name ≡ true → (x : Number) → first_of e bs ≡ x
+fault_by : (i j : ℕ) (e : Entry) (es : List Entry) (bs : List ℕ) → free 10 e.name ≡ true → (x : Option ℕ) → first_of e bs ≡ x
     → (ls : Words) → with_first i x ls ≡ faulty j → (ls ≡ faulty j → FirstFault (i + 1) es (behind 10 bs) j) → FirstFault i (e ∷ es) bs j
 unfolding with_first and_then
-fault_by i j e es bs n Wrong f ls h k =
+fault_by i j e es bs n None f ls h k =
     let z : i ≡ j = cc in
     subst (λ (m : ℕ). FirstFault i (e ∷ es) bs m) z
     (here i e es bs (λ w more l t. is_wrong (sym f ∙ ap (first_of e) t ∙ first_back e w more l n)))
-fault_by i j e es bs n (Is w) f (words ws) h k = let z : ◌≡◌ {A = ℕ} 0 1 = cc in absurd (omega arith)
-fault_by i j e es bs n (Is w) f (faulty m) h k =
+fault_by i j e es bs n (Some w) f (words ws) h k = let z : ◌≡◌ {A = ℕ} 0 1 = cc in absurd (omega arith)
+fault_by i j e es bs n (Some w) f (faulty m) h k =
     subst (λ (t : List ℕ). FirstFault i (e ∷ es) t j) (sym (first_only e bs f)) (later i j w e es (behind 10 bs) (first_top e bs w f) (k h))
 
 lines_fault : (i j : ℕ) (es : List Entry) (bs : List ℕ) → plain 10 es ≡ true → read_lines i es bs ≡ faulty j → FirstFault i es bs j
@@ -179,12 +180,12 @@ lines_fault i j (e ∷ es) bs p h =
     (λ g. lines_fault (i + 1) j es (behind 10 bs) (and_right (free 10 e.name) (plain 10 es) p) g)
 
 -- and the other way: the first fault is the one that is given
-first_wrong : (e : Entry) (bs : List ℕ) → ((w : ℕ) (more : List ℕ) → w < top e.gain → bs ≡ line_text e w ++ more → ⊥) → first_of e bs ≡ Wrong
+first_wrong : (e : Entry) (bs : List ℕ) → ((w : ℕ) (more : List ℕ) → w < top e.gain → bs ≡ line_text e w ++ more → ⊥) → first_of e bs ≡ None
 first_wrong e bs bar = by (first_of e bs) refl
   where
-    by : (x : Number) → first_of e bs ≡ x → first_of e bs ≡ Wrong
-    by Wrong f = f
-    by (Is w) f = absurd (bar w (behind 10 bs) (first_top e bs w f) (first_only e bs f))
+    by : (x : Option ℕ) → first_of e bs ≡ x → first_of e bs ≡ None
+    by None f = f
+    by (Some w) f = absurd (bar w (behind 10 bs) (first_top e bs w f) (first_only e bs f))
 
 fault_lines : {i j : ℕ} {es : List Entry} {bs : List ℕ} → FirstFault i es bs j → plain 10 es ≡ true → read_lines i es bs ≡ faulty j
 unfolding read_lines plain with_first and_then
@@ -219,7 +220,7 @@ unfolding entries
 count_entries = refl
 
 -- ════ the sheet of accepted settings is read as them
-pub sheet_back : (s : Settings) → accepted s ≡ true → read_sheet (sheet_text s) ≡ Read s
+pub sheet_back : (s : Settings) → accepted s ≡ true → read_sheet (sheet_text s) ≡ Ok s
 unfolding read_sheet lines_of sheet_text settings_in outcome judged
 sheet_back s a = rw (lines_back 1 entries (words_of s) no_feeds own_modest (all_in_lem s a), settings_back s, a) refl
 
@@ -235,49 +236,51 @@ pub record Came (bs : List ℕ) (s : Settings) : Type 0 where
   pub accepts : accepted s ≡ true
   pub text : bs ≡ sheet_text s
 
-pub judged→ : (r s : Settings) → judged r ≡ Read s → (accepted r ≡ true) × (r ≡ s)
+pub judged→ : (r s : Settings) → judged r ≡ Ok s → (accepted r ≡ true) × (r ≡ s)
 unfolding judged
 judged→ r s e =
     ⊎_elim (λ t. (t, let g = rw t at e in cc))
     (λ t. let g = rw t at e in let z : ◌≡◌ {A = ℕ} 0 1 = cc in absurd (omega arith))
     (true_or_false (accepted r))
 
-lines_read : (ls : Words) {s : Settings} → outcome (settings_in ls) ≡ Read s → (zs : List ℤ) × (ls ≡ words zs) × (judged (settings_of zs) ≡ Read s)
+lines_read : (ls : Words) {s : Settings} → outcome (settings_in ls) ≡ Ok s → (zs : List ℤ) × (ls ≡ words zs) × (judged (settings_of zs) ≡ Ok s)
 unfolding outcome settings_in
 lines_read (words zs) e = (zs, refl, e)
 lines_read (faulty i) e = let z : ◌≡◌ {A = ℕ} 0 1 = cc in absurd (omega arith)
 
-pub sheet_only : (bs : List ℕ) (s : Settings) → read_sheet bs ≡ Read s → Came bs s
+pub sheet_only : (bs : List ℕ) (s : Settings) → read_sheet bs ≡ Ok s → Came bs s
 unfolding read_sheet lines_of
 sheet_only bs s e =
     let r = lines_read (read_lines 1 entries bs) e in
     let j = judged→ (settings_of r.0) s r.2 in
     record { accepts = sym (ap accepted j.1) ∙ j.0; text = lines_text_lem bs r.1 ∙ ap sheet_text j.1 }
 
-pub judged_refused : (s : Settings) (n : ℤ) → judged s ≡ Refused n → (accepted s ≡ false) × (refusal s ≡ n)
+pub judged_refused : (s : Settings) (r : Refusal) → judged s ≡ Err (Refused r) → (accepted s ≡ false) × (refusal s ≡ number_of r)
 unfolding judged
-judged_refused s n e =
+judged_refused s r e =
     ⊎_elim (λ t. let g = rw t at e in let z : ◌≡◌ {A = ℕ} 0 1 = cc in absurd (omega arith))
-    (λ t. (t, let g = rw t at e in cc))
+    (λ t. (t, let g = rw t at e in let z : reason (refusal s) ≡ r = cc in sym (refusal_number s t) ∙ ap number_of z))
     (true_or_false (accepted s))
 
 -- a text whose lines are all good is the text of the settings in it
-pub good_text : (bs : List ℕ) (s : Settings) → lines_of bs ≡ Good s → bs ≡ sheet_text s
+pub good_text : (bs : List ℕ) (s : Settings) → lines_of bs ≡ Ok s → bs ≡ sheet_text s
 unfolding lines_of settings_in
 good_text bs s e = by (read_lines 1 entries bs) refl e
   where
-    by : (ls : Words) → read_lines 1 entries bs ≡ ls → settings_in ls ≡ Good s → bs ≡ sheet_text s
+    by : (ls : Words) → read_lines 1 entries bs ≡ ls → settings_in ls ≡ Ok s → bs ≡ sheet_text s
     by (words zs) g e = let z : settings_of zs ≡ s = cc in lines_text_lem bs g ∙ ap sheet_text z
     by (faulty i) g e = let z : ◌≡◌ {A = ℕ} 0 1 = cc in absurd (omega arith)
 
 -- and those settings are refused with the number that is given
-pub sheet_refused : (bs : List ℕ) (n : ℤ) → (read_sheet bs ≡ Refused n) ↔ ((s : Settings) × (lines_of bs ≡ Good s) × (accepted s ≡ false) × (refusal s ≡ n))
+pub sheet_refused : (bs : List ℕ) (r : Refusal)
+    → (read_sheet bs ≡ Err (Refused r)) ↔ ((s : Settings) × (lines_of bs ≡ Ok s) × (accepted s ≡ false) × (refusal s ≡ number_of r))
 unfolding read_sheet outcome judged
-sheet_refused bs n = (λ e. by (lines_of bs) refl e, λ h. rw (h.1, h.2, h.3) refl)
+sheet_refused bs r = (λ e. by (lines_of bs) refl e, λ h. rw (h.1, h.2, h.3, reason_back r) refl)
   where
-    by : (f : Found) → lines_of bs ≡ f → outcome f ≡ Refused n → (s : Settings) × (lines_of bs ≡ Good s) × (accepted s ≡ false) × (refusal s ≡ n)
-    by (Good s) g e = let j = judged_refused s n e in (s, g, j.0, j.1)
-    by (Bad i) g e = let z : ◌≡◌ {A = ℕ} 0 1 = cc in absurd (omega arith)
+    by : (f : Result Settings ℕ) → lines_of bs ≡ f → outcome f ≡ Err (Refused r)
+        → (s : Settings) × (lines_of bs ≡ Ok s) × (accepted s ≡ false) × (refusal s ≡ number_of r)
+    by (Ok s) g e = let j = judged_refused s r e in (s, g, j.0, j.1)
+    by (Err i) g e = let z : ◌≡◌ {A = ℕ} 0 1 = cc in absurd (omega arith)
 
 -- ════ commas
 free_feed : (b : ℕ) → (10 ≡ b → ⊥) → free b (10 ∷ []) ≡ true
@@ -301,59 +304,59 @@ not_free b [] ys = rw (eq-eqb b b refl) refl
 not_free b (x ∷ xs) ys = rw (not_free b xs ys) (and-false (not (eqb x b)))
 
 -- a text with a comma (44) anywhere has a faulty line
-pub comma_faulty : (xs ys : List ℕ) → (j : ℕ) × (read_sheet (xs ++ (44 ∷ ys)) ≡ Faulty j)
+pub comma_faulty : (xs ys : List ℕ) → (j : ℕ) × (read_sheet (xs ++ (44 ∷ ys)) ≡ Err (Faulty j))
 unfolding read_sheet lines_of outcome settings_in
 comma_faulty xs ys = by (read_lines 1 entries (xs ++ (44 ∷ ys))) refl
   where
     sheet_free : (zs : List ℤ) → free 44 (lines_text entries zs) ≡ true
     sheet_free zs = free_lines 44 (omega arith) (λ e. omega (arith, e)) entries zs no_commas
 
-    by : (ls : Words) → read_lines 1 entries (xs ++ (44 ∷ ys)) ≡ ls → (j : ℕ) × (outcome (settings_in ls) ≡ Faulty j)
+    by : (ls : Words) → read_lines 1 entries (xs ++ (44 ∷ ys)) ≡ ls → (j : ℕ) × (outcome (settings_in ls) ≡ Err (Faulty j))
     by (words zs) e = absurd (true≢false (sym (sheet_free zs) ∙ sym (ap (free 44) (lines_only 1 entries (xs ++ (44 ∷ ys)) e).text) ∙ not_free 44 xs ys))
     by (faulty j) e = (j, refl)
 
-pub judged_number : (s : Settings) (j : ℕ) → judged s ≡ Faulty j → ⊥
+pub judged_number : (s : Settings) (j : ℕ) → judged s ≡ Err (Faulty j) → ⊥
 unfolding judged
 judged_number s j e =
     ⊎_elim (λ t. let g = rw t at e in let z : ◌≡◌ {A = ℕ} 0 1 = cc in omega arith)
     (λ t. let g = rw t at e in let z : ◌≡◌ {A = ℕ} 0 1 = cc in omega arith)
     (true_or_false (accepted s))
 
-pub lines_faulty : (ls : Words) (j : ℕ) → outcome (settings_in ls) ≡ Faulty j → ls ≡ faulty j
+pub lines_faulty : (ls : Words) (j : ℕ) → outcome (settings_in ls) ≡ Err (Faulty j) → ls ≡ faulty j
 unfolding outcome settings_in
 lines_faulty (words zs) j e = absurd (judged_number (settings_of zs) j e)
 lines_faulty (faulty i) j e = let z : i ≡ j = cc in ap faulty z
 
 -- ════ a faulty line is the first that is not its name, an equals sign, a value and a line feed
-pub sheet_fault : (bs : List ℕ) (j : ℕ) → read_sheet bs ≡ Faulty j → FirstFault 1 entries bs j
+pub sheet_fault : (bs : List ℕ) (j : ℕ) → read_sheet bs ≡ Err (Faulty j) → FirstFault 1 entries bs j
 unfolding read_sheet lines_of
 sheet_fault bs j e = lines_fault 1 j entries bs no_feeds (lines_faulty (read_lines 1 entries bs) j e)
 
-pub fault_sheet : (bs : List ℕ) (j : ℕ) → FirstFault 1 entries bs j → read_sheet bs ≡ Faulty j
+pub fault_sheet : (bs : List ℕ) (j : ℕ) → FirstFault 1 entries bs j → read_sheet bs ≡ Err (Faulty j)
 unfolding read_sheet lines_of outcome settings_in
 fault_sheet bs j f = rw (fault_lines f no_feeds) refl
 
 -- ════ 18 exactly when the settings are accepted and the buffer is shorter than the sheet; and nothing is written unless a length is answered
-wrote_as : (s : Settings) (n : ℕ) → accepted s ≡ true → wrote s n ≡ cond (leb (length (sheet_text s)) n) (Length (length (sheet_text s))) Short
+wrote_as : (s : Settings) (n : ℕ) → accepted s ≡ true → wrote s n ≡ cond (leb (length (sheet_text s)) n) (Ok (length (sheet_text s))) (Err Short)
 unfolding wrote
 wrote_as s n a = rw a refl
 
-not_short : (s : Settings) (n : ℕ) → accepted s ≡ false → wrote s n ≡ Short → ⊥
+not_short : (s : Settings) (n : ℕ) → accepted s ≡ false → wrote s n ≡ Err Short → ⊥
 unfolding wrote
 not_short s n a e = let g = rw a at e in let z : ◌≡◌ {A = ℕ} 0 1 = cc in omega arith
 
-short_less : (s : Settings) (n : ℕ) → accepted s ≡ true → wrote s n ≡ Short → n < length (sheet_text s)
+short_less : (s : Settings) (n : ℕ) → accepted s ≡ true → wrote s n ≡ Err Short → n < length (sheet_text s)
 short_less s n a e =
     ⊎_elim (λ t. let g = sym (wrote_as s n a) ∙ e in let h = rw t at g in let z : ◌≡◌ {A = ℕ} 0 1 = cc in absurd (omega arith))
     (λ t. leb-false (length (sheet_text s)) n t)
     (true_or_false (leb (length (sheet_text s)) n))
 
-pub short_exactly : (s : Settings) (n : ℕ) → (wrote s n ≡ Short) ↔ ((accepted s ≡ true) × (n < length (sheet_text s)))
+pub short_exactly : (s : Settings) (n : ℕ) → (wrote s n ≡ Err Short) ↔ ((accepted s ≡ true) × (n < length (sheet_text s)))
 short_exactly s n = (
   λ e. ⊎_elim (λ a. (a, short_less s n a e)) (λ a. absurd (not_short s n a e)) (true_or_false (accepted s)),
   λ h. wrote_as s n h.0 ∙ rw (lt-leb (length (sheet_text s)) n h.1) refl,
 )
 
-pub untouched : (s : Settings) (out : List ℕ) → wrote s (length out) ≡ Short → sheet_in s out ≡ out
+pub untouched : (s : Settings) (out : List ℕ) → wrote s (length out) ≡ Err Short → sheet_in s out ≡ out
 unfolding sheet_in
 untouched s out e = let h = (short_exactly s (length out)).0 e in simp (h.0, lt-leb (length (sheet_text s)) (length out) h.1)

@@ -13,30 +13,30 @@ use Rattle.fixed.specs.Fixed.{is_in}
 use Rattle.fixed.proofs.Choice.{choose, by_test}
 use Rattle.fixed.proofs.HeldLaws.{and_left, and_right}
 use Rattle.fixed.proofs.Ranges.{in_size}
+use Rattle.fixed.specs.Refusal.{reason}
 use Rattle.settings.specs.declared.Settings.{Settings}
 use Rattle.settings.specs.Settings.{accepted, refusal}
 use Rattle.settings.specs.Words.{Entry, entries, key, words_of, all_in}
 use Rattle.settings.proofs.Names.{all_in_lem}
 use Rattle.writing.specs.Decimal.{count_text}
 use Rattle.writing.proofs.DecimalLaws.{decimal_length}
-use Rattle.values.specs.declared.Number.{Number}
-use Rattle.values.specs.declared.Number.TheVariants.{Is, Wrong}
-use Rattle.sheet.specs.declared.Outcome.TheVariants.{Faulty}
-use Rattle.sheet.specs.declared.Wrote.TheVariants.{Length, Barred, Short}
+use Rattle.sheet.specs.declared.Unread.TheVariants.{Faulty}
+use Rattle.sheet.specs.declared.Unwritten.TheVariants.{Barred, Short}
 use Rattle.values.specs.Value.{behind, gain_text, value_text}
 use Rattle.sheet.specs.Sheet.{line_text, lines_text, sheet_text, first_of, Words, words, faulty, and_then, with_first, read_lines, lines_of, read_sheet, wrote}
 use Rattle.sheet.proofs.SheetLaws.{lines_faulty}
 use Rattle.values.proofs.Putting.{fraction_length}
+use Rattle.std.specs.Prelude.{Option, Some, None, Ok, Err}
 
 -- ════ the number of a faulty line
 no_fault : {zs : List ℤ} {j : ℕ} → words zs ≡ faulty j → ⊥
 no_fault e = let z : ◌≡◌ {A = ℕ} 0 1 = cc in omega arith
 
-by_first : (i n j : ℕ) (x : Number) (ls : Words) → with_first i x ls ≡ faulty j → (ls ≡ faulty j → (i + 1 ≤ j) × (j ≤ i + 1 + n)) → (i ≤ j) × (j ≤ i + suc n)
+by_first : (i n j : ℕ) (x : Option ℕ) (ls : Words) → with_first i x ls ≡ faulty j → (ls ≡ faulty j → (i + 1 ≤ j) × (j ≤ i + 1 + n)) → (i ≤ j) × (j ≤ i + suc n)
 unfolding with_first and_then
-by_first i n j Wrong ls e f = let z : i ≡ j = cc in (omega (arith, z), omega (arith, z))
-by_first i n j (Is w) (words zs) e f = absurd (no_fault e)
-by_first i n j (Is w) (faulty m) e f = let h = f e in (omega (arith, h.0), omega (arith, h.1))
+by_first i n j None ls e f = let z : i ≡ j = cc in (omega (arith, z), omega (arith, z))
+by_first i n j (Some w) (words zs) e f = absurd (no_fault e)
+by_first i n j (Some w) (faulty m) e f = let h = f e in (omega (arith, h.0), omega (arith, h.1))
 
 pub fault_most : (i j : ℕ) (es : List Entry) (bs : List ℕ) → read_lines i es bs ≡ faulty j → (i ≤ j) × (j ≤ i + length es)
 unfolding read_lines
@@ -45,7 +45,7 @@ fault_most i j [] (b ∷ bs) e = let z : i ≡ j = cc in (omega (arith, z), omeg
 fault_most i j (x ∷ es) bs e =
     by_first i (length es) j (first_of x bs) (read_lines (i + 1) es (behind 10 bs)) e (λ h. fault_most (i + 1) j es (behind 10 bs) h)
 
-pub line_most : (bs : List ℕ) (j : ℕ) → read_sheet bs ≡ Faulty j → (1 ≤ j) × (j ≤ 16)
+pub line_most : (bs : List ℕ) (j : ℕ) → read_sheet bs ≡ Err (Faulty j) → (1 ≤ j) × (j ≤ 16)
 unfolding read_sheet lines_of entries
 line_most bs j e = fault_most 1 j entries bs (lines_faulty (read_lines 1 entries bs) j e)
 
@@ -97,11 +97,11 @@ unfolding sheet_text narrow most_of value_most entries
 sheet_most s a = lines_most entries (words_of s) refl (all_in_lem s a)
 
 -- a length that is answered is the sheet's
-pub fits : (s : Settings) (room n : ℕ) → wrote s room ≡ Length n → (accepted s ≡ true) × (length (sheet_text s) ≤ room) × (n ≡ length (sheet_text s))
+pub fits : (s : Settings) (room n : ℕ) → wrote s room ≡ Ok n → (accepted s ≡ true) × (length (sheet_text s) ≤ room) × (n ≡ length (sheet_text s))
 unfolding wrote
 fits s room n e = by (accepted s) refl e
   where
-    by : (b : Bool) → accepted s ≡ b → cond b (cond (leb (length (sheet_text s)) room) (Length (length (sheet_text s))) Short) (Barred (refusal s)) ≡ Length n
+    by : (b : Bool) → accepted s ≡ b → cond b (cond (leb (length (sheet_text s)) room) (Ok (length (sheet_text s))) (Err Short)) (Err (Barred (reason (refusal s)))) ≡ Ok n
         → (accepted s ≡ true) × (length (sheet_text s) ≤ room) × (n ≡ length (sheet_text s))
     by true a e =
         by_test (leb (length (sheet_text s)) room)
@@ -109,5 +109,5 @@ fits s room n e = by (accepted s) refl e
         (λ t. let g = rw t at e in let z : ◌≡◌ {A = ℕ} 0 1 = cc in absurd (omega arith))
     by false a e = let z : ◌≡◌ {A = ℕ} 0 1 = cc in absurd (omega arith)
 
-pub length_most : (s : Settings) (room n : ℕ) → wrote s room ≡ Length n → n ≤ 187
+pub length_most : (s : Settings) (room n : ℕ) → wrote s room ≡ Ok n → n ≤ 187
 length_most s room n e = let f = fits s room n e in omega (arith, f.2, sheet_most s f.0)

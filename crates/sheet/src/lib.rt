@@ -1,16 +1,13 @@
 // The sheet of a motor's settings: text that is read, and text that is written; and both as C has them, with a buffer.
 #![tactic(auto)]
 
-ghost use Rattle.std.specs.Prelude.{◌≡◌, true, ◌+◌, ◌*◌, ◌≤◌, ◌<◌, pos, length, take};
-ghost use Rattle.values.specs.Value.{before};
-ghost use Rattle.writing.specs.Decimal.{written};
-ghost use Rattle.settings.specs.Settings.{accepted};
+ghost use Rattle.std.specs.Prelude.{◌≡◌, ℕ, ◌+◌, ◌*◌, ◌≤◌, ◌<◌, Some, None, MatchOption, pos, length};
+ghost use Rattle.values.specs.Value.{behind};
+ghost use Rattle.writing.specs.Page.{Put, Room};
 ghost use Rattle.settings.specs.Words.{size as line_count, entry_at, entries};
 ghost use Rattle.sheet.specs.Sheet.{
-  starts,
   line_of,
   first_of,
-  judged,
   lines_of,
   read_sheet,
   line_text,
@@ -18,31 +15,23 @@ ghost use Rattle.sheet.specs.Sheet.{
   wrote,
   sheet_in,
 };
-ghost use Rattle.sheet.specs.Calls.{no_settings, reading_of, writing_of, ShortLine, ShortLength};
+ghost use Rattle.sheet.specs.Calls.{no_settings, reading_of, writing_of};
 
-use settings::{Checked, Settings};
-use values::Number;
+use fixed::refusal::Refusal;
+use settings::Settings;
+use writing::Page;
 
-// What stands in the lines of a text: settings, which need not be accepted, or the first faulty line, counted from 1.
-#[derive(Clone, Copy)]
-pub enum Found {
-    Good(Settings),
-    Bad(usize),
-}
-
-// What a text is read as: settings, or number 1 to 5, or number 17 with the first faulty line.
-#[derive(Clone, Copy)]
-pub enum Outcome {
-    Read(Settings),
-    Refused(i32),
+// Why a text is not read as settings: they are refused, with number 1 to 5, or a line is faulty, counted from 1, with number 17.
+#[derive(Clone, Copy, Debug, PartialEq, Eq)]
+pub enum Unread {
+    Refused(Refusal),
     Faulty(usize),
 }
 
-// What writing a sheet answers: its length, or number 1 to 5, or number 18.
-#[derive(Clone, Copy)]
-pub enum Wrote {
-    Length(usize),
-    Barred(i32),
+// Why no sheet is written: the settings are refused, with number 1 to 5, or the room is too short, with number 18.
+#[derive(Clone, Copy, Debug, PartialEq, Eq)]
+pub enum Unwritten {
+    Barred(Refusal),
     Short,
 }
 
@@ -51,151 +40,92 @@ const LINES: usize = settings::WORDS;
 // Room for a sheet, whatever its words are: 40 bytes a line.
 const ROOM: usize = 40 * LINES;
 
-// Whether a text begins with the first n bytes of a key.
-fn begins(s: &[u8], key: [u8; 6], n: usize) -> bool
-    requires { n ≤ 6 }
-    ensures { result ≡ starts (take n key) s.now }
-{
-    if s.len() < n {
-        return false;
-    }
-    let mut i = 0;
-    while i < n {
-        if s[i] != key[i] {
-            return false;
-        }
-        i += 1;
-    }
-    true
-}
-
 // A line without its line feed: name=value.
-fn line(i: usize, s: &[u8]) -> Number
+fn line(i: usize, s: &[u8]) -> Option<u64>
     requires { i < line_count }
     ensures { result ≡ line_of (entry_at i) s.now }
 {
     let f = names::field_at(i);
-    let n = f.size;
-    let key = f.key;
-    if begins(s, key, n) {
-        return values::value(f.gain, &s[n..]);
-    }
-    Number::Wrong
+    values::value(f.gain, s.strip_prefix(f.key)?)
 }
 
-// The first line of a text, of which n bytes stand in front of the line feed, or are all.
-fn first(i: usize, s: &[u8], n: usize) -> Number
-    requires { (i < line_count) × (n ≡ length (before 10 s.now)) }
-    ensures { result ≡ first_of (entry_at i) s.now }
+// The first line of a text: its word, and what stands behind it.
+fn first(i: usize, text: &[u8]) -> Option<(i32, &[u8])>
+    requires { i < line_count }
+    ensures { MatchOption result (first_of (entry_at i) text.now ≡ None)
+        (λ r. (w : ℕ) × (first_of (entry_at i) text.now ≡ Some w) × (r.0 ≡ pos w) × (r.1.now ≡ behind 10 text.now)) }
 {
-    if n < s.len() {
-        return line(i, &s[..n]);
+    let n = values::find(text, b'\n');
+    if n == text.len() {
+        return None;
     }
-    Number::Wrong
-}
-
-// The word of a value: the largest gain is below 100000, and its 4096ths fit 32 bits.
-fn word(v: u64) -> i32
-    requires { v < 409600000 }
-    ensures { result ≡ pos v }
-{
-    v as i32
+    let w = line(i, &text[..n])?;
+    Some((w as i32, &text[n + 1..]))
 }
 
 // The lines of a text, one by one, up to the first that is faulty; behind the last nothing may stand.
-#[tactic(auto, using(crate::proofs::Walking::walking_over, crate::proofs::Walking::walking_end))]
-pub fn lines(text: &[u8]) -> Found
+pub fn lines(text: &[u8]) -> Result<Settings, usize>
     ensures { result ≡ lines_of text.now }
 {
-    let mut words: [i32; LINES] = [0; LINES];
-    let mut at = 0;
-    let mut i = 0;
-    while i < LINES {
-        let n = values::find(&text[at..], b'\n');
-        let f = first(i, &text[at..], n);
-        let Number::Is(w) = f else {
-            return Found::Bad(i + 1);
-        };
-        words[i] = word(w);
-        at = at + n + 1;
-        i += 1;
+    let mut words = [0; LINES];
+    let mut rest = text;
+    for i in 0..LINES {
+        let (w, behind) = first(i, rest).ok_or(i + 1)?;
+        words[i] = w;
+        rest = behind;
     }
-    if at < text.len() {
-        return Found::Bad(i + 1);
+    if !rest.is_empty() {
+        return Err(LINES + 1);
     }
-    Found::Good(settings::of_words(&words))
-}
-
-// Settings that were read, or the number that refuses them.
-fn judge(s: Settings) -> Outcome
-    ensures { result ≡ judged s }
-{
-    match settings::check(s) {
-        Checked::Accepted(a) => Outcome::Read(a),
-        Checked::Refused(n) => Outcome::Refused(n),
-    }
+    Ok(settings::of_words(&words))
 }
 
 // Reading comes first, and the settings are judged as they stand: a word out of range has no line.
-pub fn read(text: &[u8]) -> Outcome
+pub fn read(text: &[u8]) -> Result<Settings, Unread>
     ensures { result ≡ read_sheet text.now }
 {
-    match lines(text) {
-        Found::Good(s) => judge(s),
-        Found::Bad(i) => Outcome::Faulty(i),
-    }
+    let s = lines(text).map_err(Unread::Faulty)?;
+    settings::check(s).map_err(Unread::Refused)
 }
 
 // Line i with its line feed, for which there is room whatever its word is.
-fn put_line(i: usize, w: u64, out: &mut [u8], at: usize) -> usize
-    requires { (i < line_count) × (at + 40 ≤ length out.old) }
-    ensures { (result ≡ at + length (line_text (entry_at i) w)) × (out.new ≡ written out.old at (line_text (entry_at i) w)) × (result ≤ at + 40) }
+fn put_line(page: &mut Page, i: usize, w: u64)
+    requires { (i < line_count) × Room page.old 40 }
+    ensures put { Put page.old page.new (line_text (entry_at i) w) }
+    ensures bound { page.new.at ≤ page.old.at + 40 }
 {
     let f = names::field_at(i);
-    let n = f.size;
-    let key = f.key;
-    let a = writing::put_text(&key[..n], out, at);
-    let b = values::put_value(f.gain, w, out, a);
-    writing::put_byte(b'\n', out, b)
+    page.put_text(f.key);
+    values::put_value(page, f.gain, w);
+    page.put_byte(b'\n');
 }
 
 // The sheet with these words.
-pub fn put_lines(words: [i32; LINES], out: &mut [u8], at: usize) -> usize
-    requires { at + 40 * line_count ≤ length out.old }
-    ensures { (result ≡ at + length (lines_text entries words)) × (out.new ≡ written out.old at (lines_text entries words))
-        × (result ≤ at + 40 * line_count) }
+pub fn put_lines(page: &mut Page, words: [i32; LINES])
+    requires { Room page.old (40 * line_count) }
+    ensures put { Put page.old page.new (lines_text entries words) }
+    ensures bound { page.new.at ≤ page.old.at + 40 * line_count }
 {
-    let mut place = at;
-    let mut i = 0;
-    while i < LINES {
-        place = put_line(i, writing::size(words[i]), out, place);
-        i += 1;
+    for i in 0..LINES {
+        put_line(page, i, u64::from(words[i].unsigned_abs()));
     }
-    place
 }
 
-// It is made in a place of its own and copied once its length is known. So no length is foreseen, and where it does not fit nothing is touched.
-fn write_accepted(s: Settings, out: &mut [u8]) -> Wrote
-    requires { accepted s ≡ true }
+// Settings that are refused come before any question of room. The sheet is made in a place of its own and copied once its length is known: so no
+// length is foreseen, and where it does not fit nothing is touched.
+pub fn write(s: Settings, out: &mut [u8]) -> Result<usize, Unwritten>
     ensures { (result ≡ wrote s (length out.old)) × (out.new ≡ sheet_in s out.old) }
 {
-    let mut sheet: [u8; ROOM] = [0; ROOM];
-    let place = put_lines(settings::words_of(s), &mut sheet, 0);
+    let s = settings::check(s).map_err(Unwritten::Barred)?;
+    let mut sheet = [0; ROOM];
+    let mut page = Page::new(&mut sheet, 0);
+    put_lines(&mut page, settings::words_of(s));
+    let place = page.place();
     if out.len() < place {
-        return Wrote::Short;
+        return Err(Unwritten::Short);
     }
-    let end = writing::put_text(&sheet[..place], out, 0);
-    Wrote::Length(end)
-}
-
-// Settings that are refused come before any question of room.
-pub fn write(s: Settings, out: &mut [u8]) -> Wrote
-    ensures { (result ≡ wrote s (length out.old)) × (out.new ≡ sheet_in s out.old) }
-{
-    match settings::check(s) {
-        Checked::Accepted(a) => write_accepted(a, out),
-        Checked::Refused(n) => Wrote::Barred(n),
-    }
+    out[..place].copy_from_slice(&sheet[..place]);
+    Ok(place)
 }
 
 // For C: the number, the line that comes with 17, and the settings that come with 0.
@@ -223,62 +153,26 @@ fn no_settings() -> Settings
     settings::of_words(&words)
 }
 
-fn reading_of(o: Outcome) -> Reading
-    requires { ShortLine o }
-    ensures { result ≡ reading_of o }
-{
-    let none = no_settings();
-    match o {
-        Outcome::Read(s) => Reading {
-            number: 0,
-            line: 0,
-            settings: s,
-        },
-        Outcome::Refused(n) => Reading {
-            number: n,
-            line: 0,
-            settings: none,
-        },
-        Outcome::Faulty(i) => Reading {
-            number: 17,
-            line: i as i32,
-            settings: none,
-        },
-    }
-}
-
-fn writing_of(w: Wrote) -> Writing
-    requires { ShortLength w }
-    ensures { result ≡ writing_of w }
-{
-    match w {
-        Wrote::Length(n) => Writing {
-            number: 0,
-            length: n as i32,
-        },
-        Wrote::Barred(n) => Writing {
-            number: n,
-            length: 0,
-        },
-        Wrote::Short => Writing {
-            number: 18,
-            length: 0,
-        },
-    }
-}
-
 // A sheet is read from bytes that C lends.
 pub fn mirgalhet_read_sheet(text: &[u8]) -> Reading
     ensures { result ≡ reading_of (read_sheet text.now) }
 {
-    let o = read(text);
-    reading_of(o)
+    let (number, line, settings) = match read(text) {
+        Ok(s) => (0, 0, s),
+        Err(Unread::Refused(why)) => (why.number(), 0, no_settings()),
+        Err(Unread::Faulty(i)) => (Refusal::NoSheet.number(), i as i32, no_settings()),
+    };
+    Reading { number, line, settings }
 }
 
 // A sheet is written into a buffer that C lends.
 pub fn mirgalhet_write_sheet(s: Settings, out: &mut [u8]) -> Writing
     ensures { (result ≡ writing_of (wrote s (length out.old))) × (out.new ≡ sheet_in s out.old) }
 {
-    let w = write(s, out);
-    writing_of(w)
+    let (number, length) = match write(s, out) {
+        Ok(n) => (0, n as i32),
+        Err(Unwritten::Barred(why)) => (why.number(), 0),
+        Err(Unwritten::Short) => (Refusal::NoRoom.number(), 0),
+    };
+    Writing { number, length }
 }
