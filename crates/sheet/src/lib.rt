@@ -1,7 +1,7 @@
 // The sheet of a motor's settings: text that is read, and text that is written; and both as C has them, with a buffer.
 #![tactic(auto)]
 
-ghost use Rattle.std.specs.Prelude.{◌≡◌, ℕ, ◌+◌, ◌*◌, ◌≤◌, ◌<◌, Some, None, MatchOption, pos, length};
+ghost use Rattle.std.specs.Prelude.{◌≡◌, ◌+◌, ◌*◌, ◌^◌, ◌≤◌, ◌<◌, Some, None, MatchOption, length};
 ghost use Rattle.values.specs.Value.{behind};
 ghost use Rattle.writing.specs.Page.{Put, Room};
 ghost use Rattle.settings.specs.Words.{size as line_count, entry_at, entries};
@@ -41,6 +41,7 @@ const LINES: usize = settings::WORDS;
 const ROOM: usize = 40 * LINES;
 
 // A line without its line feed: name=value.
+#[tactic(auto, using(crate::proofs::CodeLaws::line_good, crate::proofs::CodeLaws::line_other))]
 fn line(i: usize, s: &[u8]) -> Option<u64>
     requires { i < line_count }
     ensures { result ≡ line_of (entry_at i) s.now }
@@ -49,21 +50,23 @@ fn line(i: usize, s: &[u8]) -> Option<u64>
     values::value(f.gain, s.strip_prefix(f.key)?)
 }
 
-// The first line of a text: its word, and what stands behind it.
-fn first(i: usize, text: &[u8]) -> Option<(i32, &[u8])>
+// The first line of a text: its word, which fits 31 bits, and what stands behind it.
+#[tactic(auto, using(crate::proofs::CodeLaws::firsts))]
+fn first(i: usize, text: &[u8]) -> Option<(u64, &[u8])>
     requires { i < line_count }
     ensures { MatchOption result (first_of (entry_at i) text.now ≡ None)
-        (λ r. (w : ℕ) × (first_of (entry_at i) text.now ≡ Some w) × (r.0 ≡ pos w) × (r.1.now ≡ behind 10 text.now)) }
+        (λ r. (first_of (entry_at i) text.now ≡ Some r.0) × (r.0 < 2 ^ 31) × (r.1.now ≡ behind 10 text.now)) }
 {
     let n = values::find(text, b'\n');
     if n == text.len() {
         return None;
     }
     let w = line(i, &text[..n])?;
-    Some((w as i32, &text[n + 1..]))
+    Some((w, &text[n + 1..]))
 }
 
 // The lines of a text, one by one, up to the first that is faulty; behind the last nothing may stand.
+#[tactic(auto, using(crate::proofs::Walking::walks))]
 pub fn lines(text: &[u8]) -> Result<Settings, usize>
     ensures { result ≡ lines_of text.now }
 {
@@ -71,7 +74,7 @@ pub fn lines(text: &[u8]) -> Result<Settings, usize>
     let mut rest = text;
     for i in 0..LINES {
         let (w, behind) = first(i, rest).ok_or(i + 1)?;
-        words[i] = w;
+        words[i] = w as i32;
         rest = behind;
     }
     if !rest.is_empty() {
@@ -154,25 +157,46 @@ fn no_settings() -> Settings
 }
 
 // A sheet is read from bytes that C lends.
+#[tactic(auto, using(crate::proofs::Sizes::line_most), unfolding(crate::specs::Calls::reading_of))]
 pub fn mirgalhet_read_sheet(text: &[u8]) -> Reading
     ensures { result ≡ reading_of (read_sheet text.now) }
 {
-    let (number, line, settings) = match read(text) {
-        Ok(s) => (0, 0, s),
-        Err(Unread::Refused(why)) => (why.number(), 0, no_settings()),
-        Err(Unread::Faulty(i)) => (Refusal::NoSheet.number(), i as i32, no_settings()),
-    };
-    Reading { number, line, settings }
+    match read(text) {
+        Ok(settings) => Reading {
+            number: 0,
+            line: 0,
+            settings,
+        },
+        Err(Unread::Refused(why)) => Reading {
+            number: why.number(),
+            line: 0,
+            settings: no_settings(),
+        },
+        Err(Unread::Faulty(i)) => Reading {
+            number: Refusal::NoSheet.number(),
+            line: i as i32,
+            settings: no_settings(),
+        },
+    }
 }
 
 // A sheet is written into a buffer that C lends.
+#[tactic(auto, using(crate::proofs::Sizes::length_most), unfolding(crate::specs::Calls::writing_of))]
 pub fn mirgalhet_write_sheet(s: Settings, out: &mut [u8]) -> Writing
     ensures { (result ≡ writing_of (wrote s (length out.old))) × (out.new ≡ sheet_in s out.old) }
 {
-    let (number, length) = match write(s, out) {
-        Ok(n) => (0, n as i32),
-        Err(Unwritten::Barred(why)) => (why.number(), 0),
-        Err(Unwritten::Short) => (Refusal::NoRoom.number(), 0),
-    };
-    Writing { number, length }
+    match write(s, out) {
+        Ok(n) => Writing {
+            number: 0,
+            length: n as i32,
+        },
+        Err(Unwritten::Barred(why)) => Writing {
+            number: why.number(),
+            length: 0,
+        },
+        Err(Unwritten::Short) => Writing {
+            number: Refusal::NoRoom.number(),
+            length: 0,
+        },
+    }
 }
