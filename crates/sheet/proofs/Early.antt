@@ -14,10 +14,11 @@ use Rattle.writing.specs.Decimal.{count_text}
 use Rattle.writing.proofs.DecimalLaws.{decimal_length}
 use Rattle.values.specs.Value.{top, behind, gain_text, value_text}
 use Rattle.sheet.specs.Sheet.{line_text, first_of, Words, with_first, read_lines, settings_in, lines_of, outcome, read_sheet}
-use Rattle.values.proofs.ValueLaws.{free, is_wrong}
+use Rattle.values.proofs.ValueLaws.{free}
 use Rattle.sheet.proofs.SheetLaws.{plain, first_back, rest_back, first_only, first_top, no_feeds, count_entries}
 use Rattle.values.proofs.Putting.{fraction_length}
 use Rattle.sheet.proofs.CodeLaws.{short, own_short}
+use Rattle.std.proofs.lemmas.Option.{none-some}
 use Rattle.std.specs.Prelude.{Option, Some, None}
 
 value_long : (gain : Bool) (w : ℕ) → w < top gain → length (value_text gain w) ≤ 18
@@ -52,7 +53,7 @@ still_wrong e bs n f h = by (first_of e (take n bs)) refl
     by (Some w) g =
         let t = sym (take-append-drop n bs) ∙ ap (λ (l : List ℕ). l ++ drop n bs) (first_only e (take n bs) g)
         ∙ append_assoc (line_text e w) (behind 10 (take n bs)) (drop n bs) in
-        absurd (is_wrong (sym h ∙ ap (first_of e) t ∙ first_back e w _ (first_top e (take n bs) w g) f))
+        absurd (none-some _ (sym h ∙ ap (first_of e) t ∙ first_back e w _ (first_top e (take n bs) w g) f))
 
 none : (i n : ℕ) (bs : List ℕ) → 1 ≤ n → read_lines i [] (take n bs) ≡ read_lines i [] bs
 unfolding read_lines

@@ -32,7 +32,8 @@ use Rattle.values.specs.Value.{top, value_text, before, has, behind}
 use Rattle.sheet.specs.Sheet.{line_text, lines_text, sheet_text, starts, line_of, first_of, Words, words, faulty, and_then, with_first, read_lines}
 use Rattle.sheet.specs.Sheet.{settings_in, lines_of, judged, outcome, read_sheet, wrote, sheet_in}
 use Rattle.sheet.specs.Faults.{FirstFault, over, here, later}
-use Rattle.values.proofs.ValueLaws.{is_wrong, only_if, free, free_both, before_at, has_at, behind_at, split, value_top, value_only, value_back, value_free}
+use Rattle.values.proofs.ValueLaws.{only_if, free, free_both, before_at, has_at, behind_at, split, value_top, value_only, value_back, value_free}
+use Rattle.std.proofs.lemmas.Option.{none-some}
 use Rattle.std.specs.Prelude.{Option, Result, Some, None, Ok, Err}
 
 -- ════ a line
@@ -123,9 +124,6 @@ pub record Whole (es : List Entry) (bs : List ℕ) (zs : List ℤ) : Type 0 wher
   pub text : bs ≡ lines_text es zs
   pub count : length zs ≡ length es
 
-not_words : {i : ℕ} {zs : List ℤ} → faulty i ≡ words zs → ⊥
-not_words e = let z : ◌≡◌ {A = ℕ} 0 1 = cc in omega arith
-
 pub record Fronted (x : Option ℕ) (ls : Words) (zs : List ℤ) : Type 0 where
   pub w : ℕ
   pub more : List ℤ
@@ -135,14 +133,14 @@ pub record Fronted (x : Option ℕ) (ls : Words) (zs : List ℤ) : Type 0 where
 
 fronted : (i : ℕ) (x : Option ℕ) (ls : Words) {zs : List ℤ} → with_first i x ls ≡ words zs → Fronted x ls zs
 unfolding with_first and_then
-fronted i None ls e = absurd (not_words e)
+fronted i None ls e = cc
 fronted i (Some w) (words more) e = record { w = w; more = more; front = refl; others = refl; both = cc }
-fronted i (Some w) (faulty j) e = absurd (not_words e)
+fronted i (Some w) (faulty j) e = cc
 
 pub lines_only : (i : ℕ) (es : List Entry) (bs : List ℕ) {zs : List ℤ} → read_lines i es bs ≡ words zs → Whole es bs zs
 unfolding read_lines lines_text
 lines_only i [] [] {zs} e = let n : zs ≡ [] = cc in record { text = refl; count = ap length n }
-lines_only i [] (b ∷ bs) e = absurd (not_words e)
+lines_only i [] (b ∷ bs) e = cc
 lines_only i (x ∷ es) bs {zs} e =
     let f = fronted i (first_of x bs) (read_lines (i + 1) es (behind 10 bs)) e in
     let r = lines_only (i + 1) es (behind 10 bs) f.others in
@@ -166,14 +164,14 @@ unfolding with_first and_then
 fault_by i j e es bs n None f ls h k =
     let z : i ≡ j = cc in
     subst (λ (m : ℕ). FirstFault i (e ∷ es) bs m) z
-    (here i e es bs (λ w more l t. is_wrong (sym f ∙ ap (first_of e) t ∙ first_back e w more l n)))
-fault_by i j e es bs n (Some w) f (words ws) h k = let z : ◌≡◌ {A = ℕ} 0 1 = cc in absurd (omega arith)
+    (here i e es bs (λ w more l t. none-some _ (sym f ∙ ap (first_of e) t ∙ first_back e w more l n)))
+fault_by i j e es bs n (Some w) f (words ws) h k = cc
 fault_by i j e es bs n (Some w) f (faulty m) h k =
     subst (λ (t : List ℕ). FirstFault i (e ∷ es) t j) (sym (first_only e bs f)) (later i j w e es (behind 10 bs) (first_top e bs w f) (k h))
 
 lines_fault : (i j : ℕ) (es : List Entry) (bs : List ℕ) → plain 10 es ≡ true → read_lines i es bs ≡ faulty j → FirstFault i es bs j
 unfolding read_lines plain
-lines_fault i j [] [] p h = absurd (not_words (sym h))
+lines_fault i j [] [] p h = cc
 lines_fault i j [] (b ∷ bs) p h = let z : i ≡ j = cc in subst (λ (m : ℕ). FirstFault i [] (b ∷ bs) m) z (over i b bs)
 lines_fault i j (e ∷ es) bs p h =
     fault_by i j e es bs (and_left (free 10 e.name) (plain 10 es) p) (first_of e bs) refl (read_lines (i + 1) es (behind 10 bs)) h
@@ -240,13 +238,13 @@ pub judged→ : (r s : Settings) → judged r ≡ Ok s → (accepted r ≡ true)
 unfolding judged
 judged→ r s e =
     ⊎_elim (λ t. (t, let g = rw t at e in cc))
-    (λ t. let g = rw t at e in let z : ◌≡◌ {A = ℕ} 0 1 = cc in absurd (omega arith))
+    (λ t. let g = rw t at e in cc)
     (true_or_false (accepted r))
 
 lines_read : (ls : Words) {s : Settings} → outcome (settings_in ls) ≡ Ok s → (zs : List ℤ) × (ls ≡ words zs) × (judged (settings_of zs) ≡ Ok s)
 unfolding outcome settings_in
 lines_read (words zs) e = (zs, refl, e)
-lines_read (faulty i) e = let z : ◌≡◌ {A = ℕ} 0 1 = cc in absurd (omega arith)
+lines_read (faulty i) e = cc
 
 pub sheet_only : (bs : List ℕ) (s : Settings) → read_sheet bs ≡ Ok s → Came bs s
 unfolding read_sheet lines_of
@@ -258,7 +256,7 @@ sheet_only bs s e =
 pub judged_refused : (s : Settings) (r : Refusal) → judged s ≡ Err (Refused r) → (accepted s ≡ false) × (refusal s ≡ number_of r)
 unfolding judged
 judged_refused s r e =
-    ⊎_elim (λ t. let g = rw t at e in let z : ◌≡◌ {A = ℕ} 0 1 = cc in absurd (omega arith))
+    ⊎_elim (λ t. let g = rw t at e in cc)
     (λ t. (t, let g = rw t at e in let z : reason (refusal s) ≡ r = cc in sym (refusal_number s t) ∙ ap number_of z))
     (true_or_false (accepted s))
 
@@ -269,7 +267,7 @@ good_text bs s e = by (read_lines 1 entries bs) refl e
   where
     by : (ls : Words) → read_lines 1 entries bs ≡ ls → settings_in ls ≡ Ok s → bs ≡ sheet_text s
     by (words zs) g e = let z : settings_of zs ≡ s = cc in lines_text_lem bs g ∙ ap sheet_text z
-    by (faulty i) g e = let z : ◌≡◌ {A = ℕ} 0 1 = cc in absurd (omega arith)
+    by (faulty i) g e = cc
 
 -- and those settings are refused with the number that is given
 pub sheet_refused : (bs : List ℕ) (r : Refusal)
@@ -280,7 +278,7 @@ sheet_refused bs r = (λ e. by (lines_of bs) refl e, λ h. rw (h.1, h.2, h.3, re
     by : (f : Result Settings ℕ) → lines_of bs ≡ f → outcome f ≡ Err (Refused r)
         → (s : Settings) × (lines_of bs ≡ Ok s) × (accepted s ≡ false) × (refusal s ≡ number_of r)
     by (Ok s) g e = let j = judged_refused s r e in (s, g, j.0, j.1)
-    by (Err i) g e = let z : ◌≡◌ {A = ℕ} 0 1 = cc in absurd (omega arith)
+    by (Err i) g e = cc
 
 -- ════ commas
 free_feed : (b : ℕ) → (10 ≡ b → ⊥) → free b (10 ∷ []) ≡ true
@@ -318,8 +316,8 @@ comma_faulty xs ys = by (read_lines 1 entries (xs ++ (44 ∷ ys))) refl
 pub judged_number : (s : Settings) (j : ℕ) → judged s ≡ Err (Faulty j) → ⊥
 unfolding judged
 judged_number s j e =
-    ⊎_elim (λ t. let g = rw t at e in let z : ◌≡◌ {A = ℕ} 0 1 = cc in omega arith)
-    (λ t. let g = rw t at e in let z : ◌≡◌ {A = ℕ} 0 1 = cc in omega arith)
+    ⊎_elim (λ t. let g = rw t at e in cc)
+    (λ t. let g = rw t at e in cc)
     (true_or_false (accepted s))
 
 pub lines_faulty : (ls : Words) (j : ℕ) → outcome (settings_in ls) ≡ Err (Faulty j) → ls ≡ faulty j
@@ -343,11 +341,11 @@ wrote_as s n a = rw a refl
 
 not_short : (s : Settings) (n : ℕ) → accepted s ≡ false → wrote s n ≡ Err Short → ⊥
 unfolding wrote
-not_short s n a e = let g = rw a at e in let z : ◌≡◌ {A = ℕ} 0 1 = cc in omega arith
+not_short s n a e = let g = rw a at e in cc
 
 short_less : (s : Settings) (n : ℕ) → accepted s ≡ true → wrote s n ≡ Err Short → n < length (sheet_text s)
 short_less s n a e =
-    ⊎_elim (λ t. let g = sym (wrote_as s n a) ∙ e in let h = rw t at g in let z : ◌≡◌ {A = ℕ} 0 1 = cc in absurd (omega arith))
+    ⊎_elim (λ t. let g = sym (wrote_as s n a) ∙ e in let h = rw t at g in cc)
     (λ t. leb-false (length (sheet_text s)) n t)
     (true_or_false (leb (length (sheet_text s)) n))
 

@@ -3,11 +3,13 @@
 use mathlib.Core.Path.{◌≡◌, refl, sym}
 use mathlib.Core.Bool.{Bool, true, false, cond, ◌&&◌}
 use mathlib.Core.List.{List, [], ◌∷◌}
-use Prim.Native.Nat.{ℕ, suc, ◌+◌, ◌/◌, ◌%◌, ◌≤◌}
+use Prim.Native.Nat.{ℕ, suc, ◌+◌, ◌/◌, ◌%◌, ◌^◌, ◌≤◌}
 use native.Mathlib.Omega.{arith}
-use borrow.Author.Tests.{leb-true, ltb-true}
+use borrow.Author.Tests.{leb-true, ltb-true, lt-ltb}
 use lib.Dec.{ltb, leb}
-use lib.IntN.{ℤ, nat_abs}
+use lib.IntN.{ℤ, pos, nat_abs}
+use mir.Syntax.{w32}
+use mir.Val.{to_z}
 use lib.ListN.{length, length-append}
 use Rattle.fixed.specs.Fixed.{is_in}
 use Rattle.fixed.proofs.Choice.{choose, by_test}
@@ -29,18 +31,15 @@ use Rattle.values.proofs.Putting.{fraction_length}
 use Rattle.std.specs.Prelude.{Option, Some, None, Ok, Err}
 
 -- ════ the number of a faulty line
-no_fault : {zs : List ℤ} {j : ℕ} → words zs ≡ faulty j → ⊥
-no_fault e = let z : ◌≡◌ {A = ℕ} 0 1 = cc in omega arith
-
 by_first : (i n j : ℕ) (x : Option ℕ) (ls : Words) → with_first i x ls ≡ faulty j → (ls ≡ faulty j → (i + 1 ≤ j) × (j ≤ i + 1 + n)) → (i ≤ j) × (j ≤ i + suc n)
 unfolding with_first and_then
 by_first i n j None ls e f = let z : i ≡ j = cc in (omega (arith, z), omega (arith, z))
-by_first i n j (Some w) (words zs) e f = absurd (no_fault e)
+by_first i n j (Some w) (words zs) e f = cc
 by_first i n j (Some w) (faulty m) e f = let h = f e in (omega (arith, h.0), omega (arith, h.1))
 
 pub fault_most : (i j : ℕ) (es : List Entry) (bs : List ℕ) → read_lines i es bs ≡ faulty j → (i ≤ j) × (j ≤ i + length es)
 unfolding read_lines
-fault_most i j [] [] e = absurd (no_fault e)
+fault_most i j [] [] e = cc
 fault_most i j [] (b ∷ bs) e = let z : i ≡ j = cc in (omega (arith, z), omega (arith, z))
 fault_most i j (x ∷ es) bs e =
     by_first i (length es) j (first_of x bs) (read_lines (i + 1) es (behind 10 bs)) e (λ h. fault_most (i + 1) j es (behind 10 bs) h)
@@ -101,13 +100,25 @@ pub fits : (s : Settings) (room n : ℕ) → wrote s room ≡ Ok n → (accepted
 unfolding wrote
 fits s room n e = by (accepted s) refl e
   where
-    by : (b : Bool) → accepted s ≡ b → cond b (cond (leb (length (sheet_text s)) room) (Ok (length (sheet_text s))) (Err Short)) (Err (Barred (reason (refusal s)))) ≡ Ok n
+    by : (b : Bool) → accepted s ≡ b
+        → cond b (cond (leb (length (sheet_text s)) room) (Ok (length (sheet_text s))) (Err Short)) (Err (Barred (reason (refusal s)))) ≡ Ok n
         → (accepted s ≡ true) × (length (sheet_text s) ≤ room) × (n ≡ length (sheet_text s))
     by true a e =
         by_test (leb (length (sheet_text s)) room)
         (λ t. let g = rw t at e in let z : length (sheet_text s) ≡ n = cc in (a, leb-true (length (sheet_text s)) room t, sym z))
-        (λ t. let g = rw t at e in let z : ◌≡◌ {A = ℕ} 0 1 = cc in absurd (omega arith))
-    by false a e = let z : ◌≡◌ {A = ℕ} 0 1 = cc in absurd (omega arith)
+        (λ t. let g = rw t at e in cc)
+    by false a e = cc
 
 pub length_most : (s : Settings) (room n : ℕ) → wrote s room ≡ Ok n → n ≤ 187
 length_most s room n e = let f = fits s room n e in omega (arith, f.2, sheet_most s f.0)
+
+-- ════ so 32 bits hold both
+pub line_word : (bs : List ℕ) {j : ℕ} → read_sheet bs ≡ Err (Faulty j) → to_z w32 j ≡ pos j
+line_word bs {j} e = rw (lt-ltb j (2 ^ 31) (omega (arith, (line_most bs j e).1))) refl
+
+pub length_word : (s : Settings) (room : ℕ) {n : ℕ} → wrote s room ≡ Ok n → to_z w32 n ≡ pos n
+length_word s room {n} e = rw (lt-ltb n (2 ^ 31) (omega (arith, length_most s room n e))) refl
+
+pub ruleset lines_held = (line_most, line_word)
+
+pub ruleset lengths_held = (length_most, length_word)

@@ -72,9 +72,9 @@ pub fn lines(text: &[u8]) -> Result<Settings, usize>
 {
     let mut words = [0; LINES];
     let mut rest = text;
-    for i in 0..LINES {
+    for (i, word) in words.iter_mut().enumerate() {
         let (w, behind) = first(i, rest).ok_or(i + 1)?;
-        words[i] = w as i32;
+        *word = w as i32;
         rest = behind;
     }
     if !rest.is_empty() {
@@ -109,8 +109,8 @@ pub fn put_lines(page: &mut Page, words: [i32; LINES])
     ensures put { Put page.old page.new (lines_text entries words) }
     ensures bound { page.new.at ≤ page.old.at + 40 * line_count }
 {
-    for i in 0..LINES {
-        put_line(page, i, u64::from(words[i].unsigned_abs()));
+    for (i, w) in words.iter().enumerate() {
+        put_line(page, i, u64::from(w.unsigned_abs()));
     }
 }
 
@@ -149,6 +149,7 @@ pub struct Writing {
 }
 
 // Settings of zeros, which every drive refuses.
+#[tactic(auto, unfolding(crate::specs::Calls::no_settings, settings::specs::Words::settings_of))]
 fn no_settings() -> Settings
     ensures { result ≡ no_settings }
 {
@@ -157,7 +158,7 @@ fn no_settings() -> Settings
 }
 
 // A sheet is read from bytes that C lends.
-#[tactic(auto, using(crate::proofs::Sizes::line_most), unfolding(crate::specs::Calls::reading_of))]
+#[tactic(auto, using(crate::proofs::Sizes::lines_held), unfolding(crate::specs::Calls::reading_of))]
 pub fn mirgalhet_read_sheet(text: &[u8]) -> Reading
     ensures { result ≡ reading_of (read_sheet text.now) }
 {
@@ -181,7 +182,7 @@ pub fn mirgalhet_read_sheet(text: &[u8]) -> Reading
 }
 
 // A sheet is written into a buffer that C lends.
-#[tactic(auto, using(crate::proofs::Sizes::length_most), unfolding(crate::specs::Calls::writing_of))]
+#[tactic(auto, using(crate::proofs::Sizes::lengths_held), unfolding(crate::specs::Calls::writing_of))]
 pub fn mirgalhet_write_sheet(s: Settings, out: &mut [u8]) -> Writing
     ensures { (result ≡ writing_of (wrote s (length out.old))) × (out.new ≡ sheet_in s out.old) }
 {

@@ -55,11 +55,11 @@ module _ {s : List ℕ} {v i : ℕ} (r : Reading s v i) (h : i < length s) where
   unfolding value_of
   worth_here = r.worth ∙ rw (drop-cons s i 0 h, add-one i) refl
 
-  pub reading_more : is_digit (get_or s i 0) ≡ true → Reading s (v * 10 + (get_or s i 0 - 48)) (i + 1)
-  reading_more d = record {
-    good = good_here ∙ ap (λ (t : Bool). t && all_digits (drop (i + 1) s)) d;
+  pub reading_more : {d : ℕ} → is_digit (get_or s i 0) ≡ true → d ≡ get_or s i 0 - 48 → Reading s (v * 10 + d) (i + 1)
+  reading_more g e = rw e record {
+    good = good_here ∙ ap (λ (t : Bool). t && all_digits (drop (i + 1) s)) g;
     worth = worth_here;
-    less = rw (add-one i, pow-suc 10 i) (omega (arith, r.less, digit_hi (get_or s i 0) d));
+    less = rw (add-one i, pow-suc 10 i) (omega (arith, r.less, digit_hi (get_or s i 0) g));
   }
 
   pub reading_wrong : (n : ℕ) → is_digit (get_or s i 0) ≡ false → None ≡ digits_of n s
@@ -79,6 +79,8 @@ too_few s n h = rw (le-ltb 0 (length s) (omega arith)) refl
 pub too_many : (s : List ℕ) (n : ℕ) → n < length s → None ≡ digits_of n s
 unfolding digits_of
 too_many s n h = rw (lt-leb (length s) n h, and-false (ltb 0 (length s))) refl
+
+pub ruleset readings = (reading_start, reading_small, reading_more, reading_wrong, reading_end, too_few, too_many)
 
 -- ════ behind the point
 pub fraction_wrong : (s : List ℕ) → digits_of 12 s ≡ None → None ≡ fraction_of s

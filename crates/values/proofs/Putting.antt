@@ -1,7 +1,6 @@
 -- Writing a value: the digits behind a point, and how long a value is.
 -- Assumes nothing.
 use mathlib.Core.Path.{◌≡◌, refl, ap, sym, ◌∙◌}
-use mathlib.Core.Bool.{Bool, true, false}
 use mathlib.Core.List.{List, [], ◌∷◌, ◌++◌, append_assoc, append-nil}
 use mathlib.Core.Logic.{⊎_elim}
 use Prim.Native.Nat.{ℕ, suc, ◌+◌, ◌-◌, ◌*◌, ◌/◌, ◌%◌, ◌^◌, ◌≤◌, ◌<◌}
@@ -13,7 +12,7 @@ use Rattle.writing.specs.Page.{Put, Room}
 use Rattle.writing.proofs.PageLaws.{none, then}
 use Rattle.fixed.proofs.Choice.{true_or_false, less_or_not}
 use Rattle.writing.proofs.DecimalLaws.{count_length}
-use Rattle.values.specs.Value.{fraction_digits, fraction_text, gain_text, value_text}
+use Rattle.values.specs.Value.{fraction_digits, fraction_text, gain_text}
 use Rattle.values.proofs.ValueLaws.{digit_next_lem, none_left, even_none, rest_even, division_length}
 
 -- ════ long division
@@ -82,7 +81,6 @@ pub fraction_length : (f : ℕ) → length (fraction_text f) ≤ 13
 unfolding fraction_text
 fraction_length f = ⊎_elim (λ e. rw e (omega arith)) (λ e. rw e (omega (arith, division_length 12 f))) (true_or_false (eqb f 0))
 
-pub value_length : (gain : Bool) (w : ℕ) → w < 2 ^ 64 → length (value_text gain w) ≤ 33
-unfolding value_text gain_text
-value_length true w h = simp length-append (omega (arith, count_length (w / 4096) (omega arith), fraction_length (w % 4096)))
-value_length false w h = omega (arith, count_length w h)
+pub gain_length : (w : ℕ) → w < 2 ^ 64 → length (gain_text w) ≤ 33
+unfolding gain_text
+gain_length w h = simp length-append (omega (arith, count_length (w / 4096) (omega arith), fraction_length (w % 4096)))

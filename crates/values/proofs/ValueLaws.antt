@@ -23,16 +23,13 @@ use Rattle.values.specs.Value.{top, fraction_digits, fraction_text, gain_text, v
 use Rattle.values.specs.Value.{digits_of, zero_in_front, whole_of, zero_behind, ths_of, fraction_of, before, has, behind, sum, gain_of, number_of}
 
 -- ════ a number that a choice gives
-pub is_wrong : {v : ℕ} → None ≡ Some v → ⊥
-is_wrong e = cc
-
 pub only_if : (t : Bool) {x : Option ℕ} {v : ℕ} → cond t x None ≡ Some v → (t ≡ true) × (x ≡ Some v)
 only_if true e = (refl, e)
-only_if false e = absurd (is_wrong e)
+only_if false e = cc
 
 pub only_unless : (t : Bool) {x : Option ℕ} {v : ℕ} → cond t None x ≡ Some v → (t ≡ false) × (x ≡ Some v)
 only_unless false e = (refl, e)
-only_unless true e = absurd (is_wrong e)
+only_unless true e = cc
 
 -- ════ digits
 pub record Digits (n : ℕ) (bs : List ℕ) (v : ℕ) : Type 0 where
@@ -250,7 +247,7 @@ pub record Fraction (bs : List ℕ) (f : ℕ) : Type 0 where
 
 ths→ : (p : ℕ) (x : Option ℕ) {f : ℕ} → ths_of p x ≡ Some f → (v : ℕ) → x ≡ Some v → f * p ≡ v * 4096
 unfolding ths_of
-ths→ p None e v g = absurd (is_wrong e)
+ths→ p None e v g = cc
 ths→ p (Some u) {f} e v g =
     let t = only_if (eqb (u * 4096 % p) 0) e in
     let z = eqb-true (u * 4096 % p) 0 t.0 in
@@ -260,7 +257,7 @@ ths→ p (Some u) {f} e v g =
 
 ths_some : (p : ℕ) (x : Option ℕ) {f : ℕ} → ths_of p x ≡ Some f → (v : ℕ) × (x ≡ Some v)
 unfolding ths_of
-ths_some p None e = absurd (is_wrong e)
+ths_some p None e = cc
 ths_some p (Some u) e = (u, refl)
 
 pub fraction→ : (bs : List ℕ) {f : ℕ} → fraction_of bs ≡ Some f → Fraction bs f
@@ -451,8 +448,8 @@ pub record Summed (x y : Option ℕ) (w : ℕ) : Type 0 where
 
 sum→ : (x y : Option ℕ) {w : ℕ} → sum x y ≡ Some w → Summed x y w
 unfolding sum
-sum→ None y e = absurd (is_wrong e)
-sum→ (Some n) None e = absurd (is_wrong e)
+sum→ None y e = cc
+sum→ (Some n) None e = cc
 sum→ (Some n) (Some f) e = record { n = n; f = f; left = refl; right = refl; total = cc }
 
 pub gain_plain : (n f w : ℕ) → f ≡ 0 → n * 4096 + f ≡ w → gain_text w ≡ count_text n

@@ -2,7 +2,8 @@
 --     whole number    one to five digits, no zero before another digit
 --     gain            a whole number, and then nothing or a point (46) and one to twelve digits, the last of them no zero; all of it a
 --                     whole number of 4096ths, which is its word
-use Rattle.std.specs.Prelude.{ℕ, zero, suc, ◌+◌, ◌-◌, ◌*◌, ◌/◌, ◌%◌, ◌^◌, Bool, cond, ◌&&◌, Option, Some, None, List, [], ◌∷◌, ◌++◌, eqb, ltb, leb, length, get_or, drop}
+use Rattle.std.specs.Prelude.{ℕ, zero, suc, ◌+◌, ◌-◌, ◌*◌, ◌/◌, ◌%◌, ◌^◌, Bool, cond, ◌&&◌, Option, Some, None, eqb, ltb, leb}
+use Rattle.std.specs.Prelude.{List, [], ◌∷◌, ◌++◌, length, get_or, drop}
 use Rattle.text.specs.Grammar.{all_digits, value_of}
 use Rattle.writing.specs.Decimal.{count_text}
 

@@ -26,6 +26,7 @@ pub fn find(s: &[u8], b: u8) -> usize
 }
 
 // One to n digits: their number.
+#[tactic(auto, using(crate::proofs::CodeLaws::readings))]
 fn digits(s: &[u8], n: usize) -> Option<u64>
     requires { n ≤ 12 }
     ensures { result ≡ digits_of n s.now }
@@ -124,6 +125,7 @@ fn put_gain(page: &mut Page, w: u64)
 }
 
 // A value as its line has it, for which there is room whatever its word is.
+#[tactic(auto, using(crate::proofs::Putting::gain_length), unfolding(crate::specs::Value::value_text))]
 pub fn put_value(page: &mut Page, is_gain: bool, w: u64)
     requires { Room page.old 33 }
     ensures put { Put page.old page.new (value_text is_gain w) }

@@ -20,7 +20,8 @@ loop-i-preserved c =
     let z = get_or c.args.words c.loop-i.i (pos 0) in
     let r : to_z w32 (of_z w32 z) ≡ z = search rules in
     let n : length c.args.words ≡ line_count = search rules in
-    (put_next c.args.words c.loop-i.i n c.loop-i-test.true c.loop-i.invariant.0 (rw (c.from.ensures, c.unsigned_abs.ensures.value, r) at c.put_line.ensures.put), omega (arith, c.loop-i.invariant.1, c.put_line.ensures.bound))
+    let line = rw (c.from.ensures, c.unsigned_abs.ensures.value, r) at c.put_line.ensures.put in
+    (put_next c.args.words c.loop-i.i n c.loop-i-test.true c.loop-i.invariant.0 line, omega (arith, c.loop-i.invariant.1, c.put_line.ensures.bound))
 
 pub returns-clause-put : goal.returns-clause-put
 returns-clause-put c = let n : length c.args.words ≡ line_count = search rules in put_all c.args.words c.loop-i.i n c.loop-i-test.false c.loop-i.invariant.0

@@ -6,4 +6,4 @@ use Rattle.sheet.proofs.Putting.{firsts}
 use Rattle.sheet.proofs.put_lines.Given as goal
 
 abbrev pub invariant-loop-i : goal.invariant-loop-i
-invariant-loop-i l = Put l.initial.page l.page (firsts l.words l.i) × (l.page.at ≤ l.initial.page.at + 40 * l.i)
+invariant-loop-i l = Put l.initial.page l.page (firsts l.fn.words l.i) × (l.page.at ≤ l.initial.page.at + 40 * l.i)

@@ -13,5 +13,5 @@ returns c =
     c.unwrap_or.ensures
     ∙ sym
     (index_from_first (λ s. length (before b s)) (λ x. x ≡ b) (λ x. x ≢ b) (before_none b) (before_hit b) (before_miss b) c.args.s.now c.position.result
-    (IsFirst-from_position _ _ c.position.result (λ x. x ≡ b) (λ x. x ≢ b) c.position.ensures.ran (YieldsList-from_slice c.args.s.now cc) (λ x q k. search (rules, tests))
-    (λ x q k. search (rules, tests))))
+    (IsFirst-from_position _ _ c.position.result (λ x. x ≡ b) (λ x. x ≢ b) c.position.ensures.ran (YieldsList-from_slice c.args.s.now cc)
+    (λ x q k. search (rules, tests)) (λ x q k. search (rules, tests))))
