@@ -1,4 +1,4 @@
--- What the code of the findings stands on: bytes as they are shown, lines of a text, a field's name and range, the first word out of range.
+-- What the code of the findings stands on: bytes as they are shown, lines of a text, a word's name, the first word out of range, why settings are refused.
 -- Assumes nothing.
 use mathlib.Core.Path.{◌≡◌, refl, ap, sym, ◌∙◌}
 use mathlib.Core.Bool.{Bool, true, false}
@@ -7,6 +7,7 @@ use Prim.Native.Nat.{ℕ, zero, suc, ◌+◌, ◌-◌, ◌≤◌, ◌<◌}
 use native.Mathlib.Numerals.{add-one}
 use native.Mathlib.Omega.{arith}
 use lib.ListN.{length, get_or, take, drop, length-take, length-drop, drop_of_length-le}
+use borrow.Author.Tests.{lt-ltb, le-ltb}
 use lib.IntN.{ℤ, pos}
 use denote.Enum.Bare.{sameb}
 use Rattle.fixed.specs.contracts.refusal.Refusal.{the_type}
@@ -28,9 +29,7 @@ use Rattle.fixed.specs.declared.refusal.Refusal.TheVariants.{
   NoRow,
 }
 use Rattle.fixed.specs.Refusal.{number_of}
-use Rattle.std.specs.Prelude.{Err}
 use Rattle.std.specs.Prelude.{Option, Some, None, Err, MatchOption}
-use Rattle.std.proofs.lemmas.Bool.Decides.{nat_tests}
 use Rattle.fixed.specs.Fixed.{is_in, within}
 use Rattle.settings.specs.Words.{Entry, entries, entry_at, no_entry, size}
 use Rattle.values.specs.Value.{before, behind}
@@ -41,14 +40,10 @@ use Rattle.writing.proofs.PageLaws.{none, then}
 use Rattle.sheet.specs.Sheet.{lines_of, outcome, read_sheet}
 use Rattle.sheet.proofs.SheetLaws.{count_entries}
 use Rattle.sheet.proofs.Sizes.{line_most}
-use Rattle.findings.specs.Findings.{shown_byte, shown, quoted, from_line, first_out}
+use Rattle.findings.specs.Phrases as say
+use Rattle.findings.specs.Findings.{shown_byte, shown, quoted, end_text, from_line, first_out}
 
 -- ════ bytes as they are shown
-pub shown_length : (bs : List ℕ) → length (shown bs) ≡ length bs
-unfolding shown
-shown_length [] = refl
-shown_length (b ∷ bs) = ap suc (shown_length bs)
-
 shown_one : (bs : List ℕ) (b : ℕ) → shown (bs ++ (b ∷ [])) ≡ shown bs ++ (shown_byte b ∷ [])
 unfolding shown
 shown_one [] b = refl
@@ -91,8 +86,21 @@ pub ruleset showing = (showing_none, showing_more)
 pub before_most : (b : ℕ) (bs : List ℕ) → length (before b bs) ≤ length bs
 before_most b bs = omega (arith, ap length (before_take b bs), length-take (length (before b bs)) bs)
 
--- what the end of a line stands on
-pub ruleset ends = (nat_tests, none, before_most)
+-- what is said of the end of a first line
+pub end_long : (bs : List ℕ) → 40 < length (before 10 bs) → end_text bs ≡ say.and_more
+unfolding end_text
+end_long bs h = rw (lt-ltb 40 (length (before 10 bs)) h) refl
+
+pub end_bare : (bs : List ℕ) → length (before 10 bs) ≤ 40 → length (before 10 bs) ≡ length bs → end_text bs ≡ say.without_feed
+unfolding end_text
+end_bare bs h e = rw (le-ltb 40 (length (before 10 bs)) h, le-ltb (length (before 10 bs)) (length bs) (omega (arith, e))) refl
+
+pub end_fed : (bs : List ℕ) → length (before 10 bs) ≤ 40 → (length (before 10 bs) ≡ length bs → ⊥) → end_text bs ≡ []
+unfolding end_text
+end_fed bs h e =
+    rw (le-ltb 40 (length (before 10 bs)) h, lt-ltb (length (before 10 bs)) (length bs) (omega (arith, e, before_most 10 bs))) refl
+
+pub ruleset ends = (end_long, end_bare, end_fed, none)
 
 from_next : (k : ℕ) (bs : List ℕ) → from_line (suc k) bs ≡ behind 10 (from_line k bs)
 unfolding from_line

@@ -95,7 +95,7 @@ fn put_quoted(page: &mut Page, line: &[u8])
 }
 
 // What is said of the end of a text's first line, which has n bytes.
-#[tactic(auto, using(crate::proofs::Laws::ends), unfolding(crate::specs::Findings::end_text, crate::specs::Phrases::and_more, crate::specs::Phrases::without_feed))]
+#[tactic(auto, using(crate::proofs::Laws::ends), unfolding(crate::specs::Phrases::and_more, crate::specs::Phrases::without_feed))]
 fn put_end(page: &mut Page, rest: &[u8], n: usize)
     requires { (n ≡ length (before 10 rest.now)) × Room page.old 20 }
     ensures put { Put page.old page.new (end_text rest.now) }
@@ -242,7 +242,7 @@ fn put_untied(page: &mut Page, words: &[i32; WORDS], k: usize)
     put_product(page, k);
 }
 
-#[tactic(auto, unfolding(crate::specs::Findings::untied_at))]
+#[tactic(auto, using(fixed::proofs::Reading::reads), unfolding(crate::specs::Findings::untied_at))]
 fn untied_at(s: Settings) -> usize
     ensures { (result ≡ untied_at s) × (result ≤ 4) }
 {
