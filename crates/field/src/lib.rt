@@ -72,7 +72,7 @@ fn angle_next(kth: i32, angle: i32, n: i32, s: i32) -> i32
 }
 
 // Rule 6, from the currents d and q and the speed n.
-#[tactic(auto, unfolding(crate::specs::Field::followed))]
+#[tactic(auto, using(crate::proofs::FieldLaws::slip_size), unfolding(crate::specs::Field::followed))]
 pub fn followed(m: Motor, f: Field, d: i32, q: i32, n: i32) -> Field
     requires { FieldSized m.kr m.kt m.kth f d q n }
     ensures { result ≡ followed_of m.kr m.kt m.kth f d q n }
