@@ -26,6 +26,14 @@ pub struct Field {
     pub angle: i32,
 }
 
+// What the motor is, to this model: how fast the flux follows, the slip for a q current, the angle in a step.
+#[derive(Clone, Copy)]
+pub struct Motor {
+    pub kr: i32,
+    pub kt: i32,
+    pub kth: i32,
+}
+
 // The fine flux follows 4096·d with the rotor's time constant. The gap fits 32 bits, its product with Kr does not: `scaled` forms it in 64.
 fn fine_next(kr: i32, fine: i32, d: i32) -> i32
     requires { (nat_abs kr ≤ 4096) × (nat_abs fine ≤ fine_end) × (nat_abs d ≤ flux_end) }
@@ -39,10 +47,11 @@ fn fine_next(kr: i32, fine: i32, d: i32) -> i32
 pub fn flux_of(fine: i32) -> i32
     ensures { result ≡ flux_of fine }
 {
-    fixed::down(fine as i64, 4096) as i32
+    fixed::down(i64::from(fine), 4096) as i32
 }
 
 // The slip; where there is hardly any flux it is not divided by.
+#[tactic(auto, unfolding(crate::specs::Field::slip))]
 fn slip(kt: i32, flux: i32, q: i32) -> i32
     ensures { result ≡ slip_of kt flux q }
 {
@@ -53,27 +62,28 @@ fn slip(kt: i32, flux: i32, q: i32) -> i32
     }
 }
 
-// The angle after the step, from the speed n and the slip s. The remainder is a floor's: a negative angle comes round from the top.
+// The angle after the step, from the speed n and the slip s. A negative angle comes round from the top.
 fn angle_next(kth: i32, angle: i32, n: i32, s: i32) -> i32
     requires { (nat_abs kth ≤ 8191) × (nat_abs angle ≤ angles.hi) × (nat_abs n ≤ speed_end) × (nat_abs s ≤ slip_end) }
     ensures { result ≡ angle_next kth angle (n +ℤ s) }
 {
-    let a = angle as i64 + fixed::scaled(kth, n + s, 4096);
-    (a - 65536 * fixed::down(a, 65536)) as i32
+    let a = i64::from(angle) + fixed::scaled(kth, n + s, 4096);
+    a.rem_euclid(65536) as i32
 }
 
-// Rule 6.
-pub fn followed(kr: i32, kt: i32, kth: i32, f: Field, d: i32, q: i32, n: i32) -> Field
-    requires { FieldSized kr kt kth f d q n }
-    ensures { result ≡ followed_of kr kt kth f d q n }
+// Rule 6, from the currents d and q and the speed n.
+#[tactic(auto, using(crate::proofs::FieldLaws::slip_size), unfolding(crate::specs::Field::followed))]
+pub fn followed(m: Motor, f: Field, d: i32, q: i32, n: i32) -> Field
+    requires { FieldSized m.kr m.kt m.kth f d q n }
+    ensures { result ≡ followed_of m.kr m.kt m.kth f d q n }
 {
     let old = f.fine;
-    let fine = fine_next(kr, old, d);
+    let fine = fine_next(m.kr, old, d);
     let flux = flux_of(fine);
-    let s = slip(kt, flux, q);
+    let s = slip(m.kt, flux, q);
     Field {
-        fine: fine,
-        angle: angle_next(kth, f.angle, n, s),
+        fine,
+        angle: angle_next(m.kth, f.angle, n, s),
     }
 }
 
@@ -85,6 +95,7 @@ pub fn still() -> Field
 }
 
 // Whether the words of any field are in range.
+#[tactic(auto, unfolding(crate::specs::Field::field_ok, fixed::specs::Fixed::inside))]
 pub fn field_ok(f: Field) -> bool
     ensures { result ≡ field_ok f }
 {

@@ -23,15 +23,15 @@ pub fn regulate(x: i32, e: i32, g: Gains, limit: i32) -> Regulated
     requires { RegulatorSized x e g limit }
     ensures { result ≡ regulated x e g limit }
 {
-    let at = x as i64;
+    let at = i64::from(x);
     // 32 bits hold it, and say so to the optimiser
     let rise = fixed::scaled(e, g.kp, 4096) as i32;
-    let u = at + rise as i64;
+    let u = at + i64::from(rise);
     let out = fixed::hold_to(u, limit);
-    let over = out as i64 - u;
-    let change = fixed::down(fixed::times(e, g.ki) + over * (g.kcor as i64), 4096);
+    let over = i64::from(out) - u;
+    let change = fixed::down(fixed::times(e, g.ki) + over * i64::from(g.kcor), 4096);
     Regulated {
-        out: out,
+        out,
         x: (at + change) as i32,
     }
 }

@@ -1,3 +1,4 @@
 pub mod Ladder
+pub mod Kept
 pub mod Rule
 pub mod AtZero

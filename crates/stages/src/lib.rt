@@ -28,7 +28,7 @@ ghost use Rattle.stages.specs.Step.{
 };
 
 use drive_record::{Command, Drive, Integrals};
-use field::Field;
+use field::{Field, Motor};
 use frames::{Heading, Rotor, Stator};
 use modulation::Pulses;
 use regulator::{Gains, Regulated};
@@ -162,7 +162,12 @@ fn field_after(d: Drive, i: Rotor) -> Field
     ensures { result ≡ field_after d i }
 {
     let s = d.settings;
-    field::followed(s.kr, s.kt, s.kth, d.field, i.d, i.q, d.shaft.speed)
+    let m = Motor {
+        kr: s.kr,
+        kt: s.kt,
+        kth: s.kth,
+    };
+    field::followed(m, d.field, i.d, i.q, d.shaft.speed)
 }
 
 // Rule 7.
