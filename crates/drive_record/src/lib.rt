@@ -41,6 +41,7 @@ pub struct Drive {
     pub command: Command,
     pub field: Field,
     pub integrals: Integrals,
+    // a word of its own, as include/mirgalhet.h has it; the other words stand whether it is set or not
     pub tripped: bool,
 }
 

@@ -10,7 +10,7 @@ ghost use Rattle.feeding.specs.Feeds.{FeedLaws};
 use text::Line;
 use writing::Page;
 
-// Bytes went to a line: the line after them, the bytes behind them, and whether they ended it.
+// Bytes went to a line: the line after them, the bytes behind them, and whether they ended it. A flag and no Option: the line goes on where they did not.
 #[derive(Clone, Copy)]
 pub struct LineFed<'a> {
     pub line: Line,

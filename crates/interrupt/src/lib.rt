@@ -13,7 +13,7 @@ use settings::Settings;
 use stages::Stepped;
 
 // What a step answers: the compares of the phases a, b and c, the rules' number, whether the voltage was more than the period
-// holds, and the voltage that was modulated.
+// holds, and the voltage that was modulated. Numbers and a flag, as include/mirgalhet.h has them for C.
 #[repr(C)]
 #[derive(Clone, Copy)]
 pub struct Output {

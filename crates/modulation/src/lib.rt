@@ -28,7 +28,7 @@ ghost use Rattle.modulation.specs.declared.Turn.TheVariants.{First};
 
 use crate::Turn::{First, Second, Third};
 
-// The compares of the phases a, b and c, and whether the voltage was more than the period holds.
+// The compares of the phases a, b and c, and whether the voltage was more than the period holds. No Option: there are three compares in either case.
 #[derive(Clone, Copy)]
 pub struct Pulses {
     pub a: i32,
@@ -63,7 +63,7 @@ pub struct Sector {
     pub c: Turn,
 }
 
-// The times of the two active vectors.
+// The times of the two active vectors, which stand whether they were clipped or not.
 #[derive(Clone, Copy)]
 pub struct Times {
     pub t1: i32,

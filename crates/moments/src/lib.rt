@@ -48,7 +48,7 @@ pub struct Moments {
     pub real: i32,
 }
 
-// What is read at an index: 0 and the row, or 19 and zeros.
+// What is read at an index: 0 and the row, or 19 and zeros; for C, and so a number and no Option.
 #[repr(C)]
 #[derive(Clone, Copy)]
 pub struct Found {
@@ -201,7 +201,7 @@ pub fn keep(m: &mut Moments, ia: i32, ib: i32, s: Stepped)
     }
 }
 
-// One step from any drive and any sample, which answers as ever, and the record after it.
+// One step from any drive and any sample, which answers as ever, and the record after it. The sample is three numbers, as it is of `drive::step`.
 #[tactic(auto, unfolding(crate::specs::Moments::recorded))]
 pub fn recorded_step(d: Drive, m: Moments, ia: i32, ib: i32, count: i32) -> Recorded
     ensures { result ≡ recorded d m ia ib count }
@@ -212,7 +212,7 @@ pub fn recorded_step(d: Drive, m: Moments, ia: i32, ib: i32, count: i32) -> Reco
     Recorded { step, moments }
 }
 
-// The record after a clear or a start that gave this number, in place. A refused call leaves it as it is.
+// The record after a clear or a start that gave this number, in place. A refused call leaves it as it is. The number is what such a call hands to C.
 #[tactic(auto, unfolding(crate::specs::Moments::emptied_by))]
 pub fn empty_if_accepted(m: &mut Moments, number: i32)
     ensures { m.new ≡ emptied_by m.old number }

@@ -29,6 +29,7 @@ pub struct Spot {
     pub real: i32,
 }
 
+// Two words of a record, as C has them, here and below: a struct of them would be made by each caller to be taken apart at once.
 #[tactic(auto, unfolding(crate::specs::Ring::in_range))]
 fn in_range(next: i32, real: i32) -> bool
     ensures { result ≡ in_range next real }

@@ -32,7 +32,8 @@ pub struct Ran {
     pub clipped: usize,
 }
 
-// Row i as one step. The record has been tested, and a step leaves it sound, so that no row tests it again.
+// Row i as one step. The record has been tested, and a step leaves it sound, so that no row tests it again; that it is sound is a clause, here and below,
+// as it is of `drive::step_sound`.
 fn row_step(d: Drive, samples: &[i32], i: usize) -> Stepped
     requires { (sound_of d ≡ true) × (3 * i + 3 ≤ length samples.now) }
     ensures { result ≡ row_stepped d samples.now i }

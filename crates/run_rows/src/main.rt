@@ -14,7 +14,8 @@ use stream::Stream;
 use writing::Page;
 
 // The run: the header, the answers as the rows come, and the totals; where a read or a write failed no totals. So if all of an input was read, of fewer than
-// 2^64 − 1 bytes, and all that was written was sent, that is what `program_text` says of the input as a whole.
+// 2^64 − 1 bytes, and all that was written was sent, that is what `program_text` says of the input as a whole. The drive is sound by a clause, as the
+// stream asks.
 fn run_through<R: Read, W: Write>(
     from: &mut R,
     to: &mut W,

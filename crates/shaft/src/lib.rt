@@ -33,6 +33,7 @@ const BACKWARDS: i32 = -FASTEST;
 #[repr(C)]
 #[derive(Clone, Copy, Default)]
 pub struct Shaft {
+    // with the flag no Option: two words of the record, as include/mirgalhet.h has them
     pub count: i32,
     pub seen: bool,
     pub sum: i32,

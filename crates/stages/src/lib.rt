@@ -39,6 +39,8 @@ use shaft::Shaft;
 #[derive(Clone, Copy)]
 pub struct Stepped {
     pub drive: Drive,
+    // the rules' number, 0 where none refuses: promises/specs/Demand1 `StepTable` and Demand3 `EachStep` read it of this record, and there are compares
+    // with every number; as a type of its own with a model it was tried, and the proofs over the bits of this record did not close
     pub number: i32,
     pub pulses: Pulses,
     pub voltage: Stator,
@@ -82,7 +84,8 @@ fn steered(x: i32, wanted: i32, actual: i32, g: Gains, limit: i32) -> Regulated
     regulator::regulate(x, wanted - actual, g, limit)
 }
 
-// Ramp and weakening, on the speed n.
+// Ramp and weakening, on the speed n. That a record is sound is a clause, here and below, and no type: `advance`, which docs/PROMISES.md names, would ask
+// more of its callers.
 fn ramped_by(d: Drive, n: i32) -> Command
     requires { (sound_of d ≡ true) × (nat_abs n ≤ fastest) }
     ensures { result ≡ ramped_by d n }
@@ -217,7 +220,7 @@ fn rules_6_to_9(d: Drive, i: Rotor, h: Heading) -> Stepped
     }
 }
 
-// One accepted step.
+// One accepted step. The sample is three numbers, here and below, as it is of `drive::step`.
 pub fn advance(d: Drive, ia: i32, ib: i32, count: i32) -> Stepped
     requires { (sound_of d ≡ true) × (sample_ok ia ib count ≡ true) }
     ensures { result ≡ advanced d ia ib count }

@@ -24,7 +24,7 @@ pub struct Tally {
 }
 
 // Where the program stands between two bytes: the rows so far; the line at hand, its numbers, and whether a byte of it came; whether
-// a line came that is no row, after which nothing is looked at.
+// a line came that is no row, after which nothing is looked at. Two flags, as feeding/specs/Feeding `Fed` has them, over which its theorems are said.
 #[derive(Clone, Copy)]
 pub struct Stream {
     pub tally: Tally,
@@ -52,7 +52,8 @@ fn is_row(l: Line) -> bool
     !l.bad && l.count == 3
 }
 
-// A row is one step, and its answer is a line: four numbers of at most eleven bytes, with a byte behind each.
+// A row is one step, and its answer is a line: four numbers of at most eleven bytes, with a byte behind each. That the record is sound is a clause, as it
+// is of `drive::step_sound`.
 fn row_told(page: &mut Page, t: Tally, row: [i32; 3]) -> Tally
     requires { (sound_of t.drive ≡ true) × Room page.old 48 }
     ensures tally { result ≡ tally_of t row }
