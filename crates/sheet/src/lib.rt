@@ -131,7 +131,7 @@ pub fn write(s: Settings, out: &mut [u8]) -> Result<usize, Unwritten>
     Ok(place)
 }
 
-// For C: the number, the line that comes with 17, and the settings that come with 0.
+// For C (include/mirgalhet.h): the number, the line that comes with 17, and the settings that come with 0.
 #[repr(C)]
 #[derive(Clone, Copy)]
 pub struct Reading {
@@ -140,7 +140,7 @@ pub struct Reading {
     pub settings: Settings,
 }
 
-// The number, and the length that comes with 0.
+// For C too: the number, and the length that comes with 0.
 #[repr(C)]
 #[derive(Clone, Copy)]
 pub struct Writing {

@@ -106,7 +106,7 @@ fn put_fraction(page: &mut Page, f: u64)
     ensures { Put page.old page.new (fraction_digits 12 f) }
 {
     let mut rest = f;
-    // long division, as long as something is left: nothing is counted
+    // a `while`: no range or slice says how many digits there are, the division ends once nothing is left
     while 0 < rest {
         page.put_byte(b'0' + (rest * 10 / 4096) as u8);
         rest = rest * 10 % 4096;
