@@ -71,7 +71,7 @@ fn angle_next(kth: i32, angle: i32, n: i32, s: i32) -> i32
     a.rem_euclid(65536) as i32
 }
 
-// Rule 6, from the currents d and q and the speed n.
+// Rule 6, from the currents d and q and the speed n. (d and q are no pair here: the flux follows d, and q makes the slip.)
 #[tactic(auto, using(crate::proofs::FieldLaws::slip_size), unfolding(crate::specs::Field::followed))]
 pub fn followed(m: Motor, f: Field, d: i32, q: i32, n: i32) -> Field
     requires { FieldSized m.kr m.kt m.kth f d q n }

@@ -142,7 +142,7 @@ fn share(t: i32, sum: i32, x: i32) -> i32
 }
 
 // The clipping rule: both times keep their proportion, and so the voltage its angle.
-// (It takes two numbers, as `Times` says whether they have been clipped.)
+// (It takes two numbers, as a `Times` says whether they have been clipped.)
 #[tactic(auto, unfolding(crate::specs::Modulation::clipped_times, crate::specs::Modulation::cut))]
 fn clip(t: i32, t1: i32, t2: i32) -> Times
     requires { Period t × Time t1 × Time t2 }
@@ -200,7 +200,7 @@ fn place(t: i32, r: Sector, h: Times) -> Pulses
     }
 }
 
-// The compares of the phases a, b and c in a period t, for the voltage (va, vb).
+// The compares of the phases a, b and c in a period t, for the voltage (va, vb). (Two numbers, since this crate knows no frames.)
 pub fn modulate(t: i32, va: i32, vb: i32) -> Pulses
     requires { Period t × (nat_abs va ≤ 8192) × (nat_abs vb ≤ 8192) }
     ensures { result ≡ modulated t va vb }

@@ -55,6 +55,7 @@ fn entry_ahead(i: usize) -> i16
 }
 
 // Which entry an angle reads.
+#[tactic(auto, unfolding(crate::specs::Sine::index_of, fixed::specs::Fixed::down))]
 fn index(angle: i32) -> usize
     requires { Angle angle }
     ensures { result ≡ index_of angle }

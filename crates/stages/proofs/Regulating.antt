@@ -44,6 +44,9 @@ unfolding current_gains
 current_sized s x wanted actual i h =
     gains_sized x wanted actual (current_gains s) s.v i.current (in-lo range.v s.v i.v) (omega (arith, in_size range.v s.v i.v)) h
 
--- the same once each number is read back from its bits: r is what the call gave
+-- the same once each number is read back from its bits
+pub read_errors : {x y w v a b : ℤ} → x ≡ y → w ≡ v → a ≡ b → ErrorSized y v b → ErrorSized x w a
+read_errors p q r t = rw (p, q, r) t
+
 pub read_sized : {x y e f l m : ℤ} {g h : Gains} → x ≡ y → e ≡ f → g ≡ h → l ≡ m → RegulatorSized y f h m → RegulatorSized x e g l
 read_sized p q r s t = rw (p, q, r, s) t

@@ -8,13 +8,13 @@ use lib.IntN.{◌-ℤ◌}
 use Rattle.fixed.proofs.Equal.{ap₄}
 use Rattle.frames.specs.Frames.{rotor_end}
 use Rattle.regulator.specs.Regulator.{regulated}
-use Rattle.fixed.proofs.Reading.{local, stored, result, bound}
+use Rattle.fixed.proofs.Reading.{local, stored, result}
 use Rattle.drive_record.specs.declared.Command.{Command}
 use Rattle.stages.specs.Step.{ramped_by, speed_regulated, with_command, commanded}
 use Rattle.drive_record.proofs.Ranges.{sound→}
 use Rattle.stages.proofs.Sizes as size
 use Rattle.stages.proofs.Kept.{ramped_size}
-use Rattle.stages.proofs.Regulating.{error_sized, read_sized, speed_sized}
+use Rattle.stages.proofs.Regulating.{error_sized, read_errors, read_sized, speed_sized}
 use Rattle.drive_record.proofs.DriveFromBits.{from_bits}
 use Rattle.stages.proofs.commanded.Goals as goal
 use Rattle.shaft.specs.Shaft.{fastest}
@@ -41,11 +41,7 @@ steered-u-requires c =
     let reference = stored w32 (result (ap (λ (x : Command). x.reference) ramped) (ramped_size d c.args.s.speed h)) tt in
     let e = error_sized d.integrals.speed (ramped_by d c.args.s.speed).reference
     c.args.s.speed (size.speed_integral_size d h) (ramped_size d c.args.s.speed h) (le_trans c.requires.1 (leb→le fastest rotor_end tt)) in (
-      record {
-        x_size = bound (local w32 {x = d.integrals.speed} (size.speed_integral_size d h) tt) tt;
-        wanted_size = bound reference tt;
-        actual_size = bound speed tt;
-      },
+      read_errors b.integrals.speed reference.is speed.is e,
       read_sized b.integrals.speed (ap₂ ◌-ℤ◌ reference.is speed.is) c.speed_gains-g.ensures b.settings.q
           (speed_sized d.settings _ _ _ h.settings e),
     )

@@ -2,9 +2,7 @@
 -- Assumes nothing.
 use mathlib.Core.Path.{◌∙◌, ap, ap₂}
 use lib.IntN.{ℤ, ◌-ℤ◌}
-use mir.Syntax.{w32}
 use Rattle.fixed.proofs.Equal.{ap₄}
-use Rattle.fixed.proofs.Reading.{local, bound}
 use Rattle.regulator.specs.declared.Regulated.{Regulated}
 use Rattle.regulator.specs.Regulator.{regulated}
 use Rattle.regulator.proofs.RegulatedFromBits.{from_bits as regulated_told}
@@ -12,7 +10,7 @@ use Rattle.frames.proofs.RotorFromBits.{from_bits as rotor_told}
 use Rattle.stages.specs.Step.{current_regulated, d_regulated, q_regulated, voltage_of, voltage_for}
 use Rattle.drive_record.proofs.Ranges.{sound→}
 use Rattle.stages.proofs.Sizes as size
-use Rattle.stages.proofs.Regulating.{error_sized, read_sized, current_sized}
+use Rattle.stages.proofs.Regulating.{error_sized, read_errors, read_sized, current_sized}
 use Rattle.drive_record.proofs.DriveFromBits.{from_bits}
 use Rattle.stages.proofs.voltage_for.Goals as goal
 
@@ -39,11 +37,7 @@ steered-u-requires c =
     let b = from_bits d _ c.well_formed.0.1.1 in
     let i = rotor_told c.args.i _ c.well_formed.1.0.1.1 in
     let e = error_sized d.integrals.d d.command.flux c.args.i.d (size.d_integral_size d h) (size.flux_reference_size d h) c.requires.d_size in (
-      record {
-        x_size = bound (local w32 {x = d.integrals.d} e.x_size tt) tt;
-        wanted_size = bound (local w32 {x = d.command.flux} e.wanted_size tt) tt;
-        actual_size = bound (local w32 {x = c.args.i.d} e.actual_size tt) tt;
-      },
+      read_errors b.integrals.d b.command.flux i.d e,
       read_sized b.integrals.d (ap₂ ◌-ℤ◌ b.command.flux i.d) c.current_gains-g.ensures b.settings.v
           (current_sized d.settings _ _ _ h.settings e),
     )
@@ -55,11 +49,7 @@ steered-w-requires c =
     let b = from_bits d _ c.well_formed.0.1.1 in
     let i = rotor_told c.args.i _ c.well_formed.1.0.1.1 in
     let e = error_sized d.integrals.q d.command.torque c.args.i.q (size.q_integral_size d h) (size.torque_size d h) c.requires.q_size in (
-      record {
-        x_size = bound (local w32 {x = d.integrals.q} e.x_size tt) tt;
-        wanted_size = bound (local w32 {x = d.command.torque} e.wanted_size tt) tt;
-        actual_size = bound (local w32 {x = c.args.i.q} e.actual_size tt) tt;
-      },
+      read_errors b.integrals.q b.command.torque i.q e,
       read_sized b.integrals.q (ap₂ ◌-ℤ◌ b.command.torque i.q) c.current_gains-g.ensures b.settings.v
           (current_sized d.settings _ _ _ h.settings e),
     )
