@@ -72,7 +72,6 @@ pub fn line_start() -> Line
 }
 
 // The word at hand has ended. At the line feed this ends the line: then `bad` says whether it is refused, `count` how many numbers it had.
-#[tactic(auto, unfolding(crate::specs::Automaton::line_end, crate::specs::Automaton::numbers_end, crate::specs::Automaton::takes, crate::specs::Automaton::word_start))]
 pub fn line_end(l: Line, numbers: &mut [i32]) -> Line
     ensures { (result ≡ line_end l (length numbers.old)) × (numbers.new ≡ numbers_end l numbers.old) }
 {
