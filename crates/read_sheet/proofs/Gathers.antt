@@ -1,83 +1,44 @@
 -- Read after read is gathered, and what is said of it is said of the whole input.
 -- Assumes nothing.
-use Rattle.std.proofs.Common.{◌≡◌, ℕ, ◌+◌, ◌≤◌, ◌<◌, List, [], ◌++◌, length, take, drop, refl, sym, ap, subst, ◌∙◌, arith, append_assoc, append-nil}
-use Rattle.std.proofs.Common.{length-append}
-use Rattle.std.specs.Prelude.{Option, None, Some, true, false, ltb, IfSome}
+use Rattle.std.proofs.Common.{◌≡◌, ℕ, ◌+◌, ◌≤◌, List, ◌++◌, length, take, refl, sym, ap, ap₂, subst, ◌∙◌, arith, append-nil}
+use Rattle.std.specs.Prelude.{Option, None, Some, IfSome}
 use Rattle.std.specs.Io.KnownBytes.{Appends, Consumes, IsAtEnd}
-use Rattle.std.proofs.KnownBytes.{Consumes-nil, Consumes-trans}
-use Rattle.std.proofs.lemmas.List.{take_at, length-take-le}
-use borrow.Author.Tests.{lt-ltb}
-use mathlib.Core.Bool.{true≢false}
-use Rattle.fixed.proofs.Choice.{by_order, by_test}
-use Rattle.writing.specs.Decimal.{written}
+use Rattle.std.proofs.KnownBytes.{Consumes-trans}
+use Rattle.std.proofs.Math.Seq.{take-add}
+use Rattle.std.proofs.lemmas.List.{take_at, drop_at, take-append-le, length-take-le}
+use borrow.Rule.Slice.PartMut.{put_mid, post_of}
+use Rattle.fixed.proofs.Choice.{by_order}
 use Rattle.findings.specs.Findings.{answer_text}
 use Rattle.findings.proofs.Promises.{unread_changes_nothing}
-use Rattle.read_sheet.specs.declared.Gathered.{Gathered}
 use Rattle.read_sheet.specs.Gathering.{Gathering}
 
--- what is written over the front is the front
-front_written : (o bs out : List ℕ) (n : ℕ) → n ≡ 0 + length bs → out ≡ written o 0 bs → take n out ≡ bs
-unfolding written
-front_written o bs out n e w = rw (w, e) (take_at bs (drop (0 + length bs) o) (0 + length bs) (omega arith))
-
-pub sent_front : (v w : Option (List ℕ)) (o bs out : List ℕ) (n : ℕ) → n ≡ 0 + length bs → out ≡ written o 0 bs → Appends v w (take n out) → Appends v w bs
-sent_front v w o bs out n e h = subst (Appends v w) (front_written o bs out n e h)
-
--- what is written behind a front makes it longer
-front_longer : (o bs : List ℕ) (at : ℕ) → at ≤ length o → take (at + length bs) (written o at bs) ≡ take at o ++ bs
-unfolding written
-front_longer o bs at h =
-    rw (← append_assoc (take at o) bs (drop (at + length bs) o))
-    (take_at (take at o ++ bs) (drop (at + length bs) o) (at + length bs)
-    (length-append (take at o) bs ∙ ap (λ (n : ℕ). n + length bs) (length-take-le at o h)))
-
--- nothing yet
-pub gathering_none : (f : Option (List ℕ)) (text : List ℕ) (g : Gathered) → g.size ≡ 0 → g.going ≡ true → Gathering f f text g
-gathering_none f text g s h = record {
-  eaten = [];
-  read = Consumes-nil f;
-  held = rw s refl;
-  size = s;
-  over = λ n. absurd (true≢false (sym h ∙ n));
-}
+-- what is read behind a front makes it longer
+front_longer : (text now : List ℕ) (at k n : ℕ) → at ≤ length text → n ≤ length now → take (at + n) (put_mid at k text now) ≡ take at text ++ take n now
+front_longer text now at k n h l =
+    let a = take at text in
+    let b = now ++ post_of at k text in
+    let w : at ≡ length a = sym (length-take-le at text h) in
+    take-add at n (put_mid at k text now) ∙ ap₂ (λ (xs ys : List ℕ). xs ++ ys) (take_at a b at (sym w)) (ap (take n) (drop_at a b at (sym w)) ∙ take-append-le n now (post_of at k text) l)
 
 -- one read more, of n bytes
-pub gathering_more : {f g h : Option (List ℕ)} {text next : List ℕ} {last now : Gathered} {n : ℕ} (chunk : List ℕ)
-    → Gathering f g text last → last.size ≤ length text → n ≡ length chunk → Consumes g h chunk
-    → now.size ≡ last.size + n → next ≡ written text last.size chunk → now.going ≡ ltb 0 n → (now.unread ≡ false → n ≡ 0 → IsAtEnd h)
-    → Gathering f h next now
-gathering_more {f} {g} {h} {text} {next} {last} {now} {n} chunk t low size read place wrote going end = record {
-  eaten = t.eaten ++ chunk;
-  read = Consumes-trans f g h _ _ t.read read;
-  held = rw (place, size, wrote) (front_longer text chunk last.size low ∙ ap (λ (l : List ℕ). l ++ chunk) t.held);
-  size = omega (arith, place, size, t.size, length-append t.eaten chunk);
-  over = λ e u. end u (none e);
-}
-  where
-    none : now.going ≡ false → n ≡ 0
-    none e = by_order 0 n (λ l. absurd (true≢false (sym (lt-ltb 0 n l) ∙ sym going ∙ e))) (λ l. omega arith)
+pub read_more : (f g h : Option (List ℕ)) (text now : List ℕ) (at k n : ℕ) → at ≤ length text → n ≤ length now
+    → Consumes f g (take at text) → Consumes g h (take n now) → Consumes f h (take (at + n) (put_mid at k text now))
+read_more f g h text now at k n low l read more = subst (Consumes f h) (sym (front_longer text now at k n low l)) (Consumes-trans f g h _ _ read more)
 
 -- what is said of what was read is said of the input: it is all of it, or it is enough
-pub said : {f g : Option (List ℕ)} {text : List ℕ} {last : Gathered} (t : Gathering f g text last) → (last.going ≡ true → 3072 < last.size)
-    → last.unread ≡ false
-    → (input : List ℕ) → f ≡ Some input → answer_text t.eaten ≡ answer_text input
-said {f} {g} {text} {last} t enough u input is =
-    let c = subst (λ (o : Option (List ℕ)). Consumes o g t.eaten) is t.read in
-    by_test last.going (λ on. early g c (enough on)) (λ off. all g c (t.over off u))
-  where
-    early : (g : Option (List ℕ)) → Consumes (Some input) g t.eaten → 3072 < last.size → answer_text t.eaten ≡ answer_text input
-    early None c l = absurd c
-    early (Some ys) c l =
-        let n : 500 ≤ length t.eaten = omega (arith, l, t.size) in
-        ap answer_text (sym (take_at t.eaten ys (length t.eaten) refl)) ∙ ap (λ (bs : List ℕ). answer_text (take (length t.eaten) bs)) (sym c)
-        ∙ unread_changes_nothing input (length t.eaten) n
+said : (g : Option (List ℕ)) (text input : List ℕ) (size : ℕ) → size ≤ length text → Consumes (Some input) g (take size text) → (size ≤ 3072 → IsAtEnd g)
+    → answer_text (take size text) ≡ answer_text input
+said None text input size fits c ends = absurd c
+said (Some ys) text input size fits c ends =
+    let bs = take size text in
+    let l : length bs ≡ size = length-take-le size text fits in
+    by_order 3072 size
+    (λ more. let n : 500 ≤ length bs = omega (arith, l, more) in
+    ap answer_text (sym (take_at bs ys (length bs) refl)) ∙ ap (λ (xs : List ℕ). answer_text (take (length bs) xs)) (sym c)
+    ∙ unread_changes_nothing input (length bs) n)
+    (λ few. ap answer_text (sym (c ∙ ap (λ (xs : List ℕ). bs ++ xs) (ends few) ∙ append-nil bs)))
 
-    all : (g : Option (List ℕ)) → Consumes (Some input) g t.eaten → IsAtEnd g → answer_text t.eaten ≡ answer_text input
-    all None c e = absurd c
-    all (Some ys) c e = ap answer_text (sym (c ∙ ap (λ (l : List ℕ). t.eaten ++ l) e ∙ append-nil t.eaten))
-
-pub answered : (f g v w : Option (List ℕ)) (text : List ℕ) (last : Gathered) → Gathering f g text last → (last.going ≡ true → 3072 < last.size)
-    → last.unread ≡ false → Appends v w (answer_text (take last.size text)) → IfSome f (λ input. Appends v w (answer_text input))
-answered None g v w text last t enough u a = tt
-answered (Some input) g v w text last t enough u a =
-    subst (Appends v w) (ap answer_text t.held ∙ said t enough u input refl) a
+pub answered : (f g v w : Option (List ℕ)) (text : List ℕ) (size : ℕ) → Gathering f g text size → Appends v w (answer_text (take size text))
+    → IfSome f (λ input. Appends v w (answer_text input))
+answered None g v w text size t sent = tt
+answered (Some input) g v w text size t sent = subst (Appends v w) (said g text input size t.fits t.read t.ends) sent
