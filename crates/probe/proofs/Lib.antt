@@ -1,2 +1,2 @@
 pub mod CallLaws
-pub mod Turns
+pub mod Whole

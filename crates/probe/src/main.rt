@@ -2,25 +2,23 @@
 // model of the drive, in any language, can be held against it word by word.
 #![tactic(auto)]
 
-ghost use Rattle.std.specs.Prelude.{◌≡◌, ◌+◌, ◌*◌, ◌<◌, ◌≤◌, true, false, cond, not, ◌&&◌, [], ltb, pos, length, take, replicate, IfSome};
-ghost use Rattle.pipes.specs.Counts.{IsPrefixLen};
-ghost use Rattle.writing.specs.Decimal.{bad_text, written};
+ghost use Rattle.std.specs.Prelude.{◌≡◌, ⊤, ◌*◌, ◌+◌, ◌<◌, ◌≤◌, cond, [], pos, length, replicate, List, ℕ, IfOk, IfSome};
+ghost use Rattle.writing.specs.Decimal.{bad_text};
+ghost use Rattle.writing.specs.Page.{Put, Room};
 ghost use Rattle.feeding.specs.Lines.{one_more, good_lines, ends_bad, after_all};
 ghost use Rattle.feeding.specs.Feeding.{line_due, fed_of};
 ghost use Rattle.probe.specs.Calls.{most, call_by, is_call, calls_after, as_fed};
-ghost use Rattle.probe.specs.Through.{Through};
+ghost use Rattle.probe.specs.Feeds.{FedCalls, calls_laws};
 
-use drive::{Answered, Made};
 use drive_record::{Command, Drive, Integrals};
+use feeding::Feed;
 use field::Field;
-use frames::Stator;
-use modulation::Pulses;
-use pipes::Got;
+use pipes::Trouble;
 use settings::Settings;
 use shaft::Shaft;
-use stages::Stepped;
 use std::io::{Read, Write};
 use text::Line;
+use writing::Page;
 
 // What is kept from one byte to the next: how many calls came, the line at hand, its numbers, and whether a byte of it came; whether a line came
 // that is no call, after which nothing is looked at.
@@ -31,13 +29,6 @@ pub struct Calls {
     pub numbers: [i32; ALL],
     pub begun: bool,
     pub stopped: bool,
-}
-
-// A chunk is fed: the calls after it, and the place behind what was written.
-#[derive(Clone, Copy)]
-pub struct Passed {
-    pub calls: Calls,
-    pub place: usize,
 }
 
 // Numbers in: the call, the settings, 15 words of the record, then the call's own. The places of these three, and the most there are.
@@ -120,144 +111,87 @@ fn is_call(n: &[i32; ALL], count: usize) -> bool
     made | stepped | targeted | cleared
 }
 
-// Numbers out.
-fn word(b: bool) -> i32 {
-    if b { 1 } else { 0 }
+// Numbers out: the record's 15 words.
+fn record_words(d: Drive) -> [i32; 15] {
+    [
+        d.shaft.count,
+        i32::from(d.shaft.seen),
+        d.shaft.sum,
+        d.shaft.steps,
+        d.shaft.speed,
+        d.command.target,
+        d.command.reference,
+        d.command.torque,
+        d.command.flux,
+        d.field.fine,
+        d.field.angle,
+        d.integrals.speed,
+        d.integrals.d,
+        d.integrals.q,
+        i32::from(d.tripped),
+    ]
 }
 
-// One word at a place; answers the place after it, as the others do.
-fn put_word(v: i32, words: &mut [i32], at: usize) -> usize
-    requires { at + 1 ≤ length words.old }
-    ensures { result ≡ at + 1 }
-{
-    words[at] = v;
-    at + 1
-}
-
-fn shaft_out(s: Shaft, words: &mut [i32], at: usize) -> usize
-    requires { at + 5 ≤ length words.old }
-    ensures { result ≡ at + 5 }
-{
-    let a = put_word(s.count, words, at);
-    let b = put_word(word(s.seen), words, a);
-    let c = put_word(s.sum, words, b);
-    let d = put_word(s.steps, words, c);
-    put_word(s.speed, words, d)
-}
-
-fn command_out(c: Command, words: &mut [i32], at: usize) -> usize
-    requires { at + 4 ≤ length words.old }
-    ensures { result ≡ at + 4 }
-{
-    let a = put_word(c.target, words, at);
-    let b = put_word(c.reference, words, a);
-    let d = put_word(c.torque, words, b);
-    put_word(c.flux, words, d)
-}
-
-fn field_out(f: Field, words: &mut [i32], at: usize) -> usize
-    requires { at + 2 ≤ length words.old }
-    ensures { result ≡ at + 2 }
-{
-    let a = put_word(f.fine, words, at);
-    put_word(f.angle, words, a)
-}
-
-fn integrals_out(x: Integrals, words: &mut [i32], at: usize) -> usize
-    requires { at + 3 ≤ length words.old }
-    ensures { result ≡ at + 3 }
-{
-    let a = put_word(x.speed, words, at);
-    let b = put_word(x.d, words, a);
-    put_word(x.q, words, b)
-}
-
-// The record's 15 words.
-fn drive_out(d: Drive, words: &mut [i32], at: usize) -> usize
-    requires { at + 15 ≤ length words.old }
-    ensures { result ≡ at + 15 }
-{
-    let a = shaft_out(d.shaft, words, at);
-    let b = command_out(d.command, words, a);
-    let c = field_out(d.field, words, b);
-    let e = integrals_out(d.integrals, words, c);
-    put_word(word(d.tripped), words, e)
-}
-
-fn pulses_out(p: Pulses, words: &mut [i32], at: usize) -> usize
-    requires { at + 4 ≤ length words.old }
-    ensures { result ≡ at + 4 }
-{
-    let a = put_word(p.a, words, at);
-    let b = put_word(p.b, words, a);
-    let c = put_word(p.c, words, b);
-    put_word(word(p.clipped), words, c)
-}
-
-fn voltage_out(v: Stator, words: &mut [i32], at: usize) -> usize
-    requires { at + 2 ≤ length words.old }
-    ensures { result ≡ at + 2 }
-{
-    let a = put_word(v.alpha, words, at);
-    put_word(v.beta, words, a)
-}
-
-// What a step answered, in words, and how many there are; the next three likewise.
-fn stepped(s: Stepped, words: &mut [i32]) -> usize
-    requires { 22 ≤ length words.old }
-    ensures { result ≡ 22 }
-{
-    let a = put_word(s.number, words, 0);
-    let b = pulses_out(s.pulses, words, a);
-    let c = voltage_out(s.voltage, words, b);
-    drive_out(s.drive, words, c)
-}
-
-fn answered(a: Answered, words: &mut [i32]) -> usize
-    requires { 22 ≤ length words.old }
-    ensures { result ≡ 16 }
-{
-    let at = put_word(a.number, words, 0);
-    drive_out(a.drive, words, at)
-}
-
-fn made(m: Made, words: &mut [i32]) -> usize
-    requires { 22 ≤ length words.old }
-    ensures { (1 ≤ result) × (result ≤ 22) }
-{
-    let at = put_word(drive::number_of(m), words, 0);
-    let Made::Ready(d) = m else {
-        return at;
-    };
-    drive_out(d, words, at)
-}
-
-fn answer(n: &[i32; ALL], words: &mut [i32]) -> usize
-    requires { 22 ≤ length words.old }
-    ensures { (1 ≤ result) × (result ≤ 22) }
-{
-    let call = n[0];
-    if call == 0 {
-        return made(drive::make(settings_in(n)), words);
-    }
-    let d = drive_in(n);
-    if call == 1 {
-        return stepped(drive::step(d, n[OWN], n[OWN + 1], n[OWN + 2]), words);
-    }
-    if call == 2 {
-        return answered(drive::target(d, n[OWN]), words);
-    }
-    answered(drive::clear(d), words)
-}
-
-// Twelve bytes for each of 22 words.
-fn put_answer(n: &[i32; ALL], out: &mut [u8], at: usize) -> usize
-    requires { at + 264 ≤ length out.old }
-    ensures { result ≤ at + 264 }
+// Numbers, and the record's words behind them, as a line: twelve bytes for each of 22 words at most.
+fn put_with_record(page: &mut Page, numbers: &[i32], d: Drive)
+    requires { (length numbers.now ≤ 7) × Room page.old 264 }
+    ensures put { (text : List ℕ) × Put page.old page.new text }
+    ensures bound { page.new.at ≤ page.old.at + 264 }
 {
     let mut words = [0i32; 22];
-    let k = answer(n, &mut words);
-    writing::put_line(&words, k, out, at)
+    let end = numbers.len() + 15;
+    words[..numbers.len()].copy_from_slice(numbers);
+    words[numbers.len()..end].copy_from_slice(&record_words(d));
+    page.put_line(&words[..end]);
+}
+
+fn put_made(page: &mut Page, s: Settings)
+    requires { Room page.old 264 }
+    ensures put { (text : List ℕ) × Put page.old page.new text }
+    ensures bound { page.new.at ≤ page.old.at + 264 }
+{
+    match drive::make(s) {
+        Ok(d) => put_with_record(page, &[0], d),
+        Err(why) => page.put_line(&[why.number()]),
+    }
+}
+
+fn put_stepped(page: &mut Page, d: Drive, ia: i32, ib: i32, count: i32)
+    requires { Room page.old 264 }
+    ensures put { (text : List ℕ) × Put page.old page.new text }
+    ensures bound { page.new.at ≤ page.old.at + 264 }
+{
+    let s = drive::step(d, ia, ib, count);
+    let p = s.pulses;
+    let numbers = [
+        s.number,
+        p.a,
+        p.b,
+        p.c,
+        i32::from(p.clipped),
+        s.voltage.alpha,
+        s.voltage.beta,
+    ];
+    put_with_record(page, &numbers, s.drive);
+}
+
+fn put_answer(page: &mut Page, n: &[i32; ALL])
+    requires { Room page.old 264 }
+    ensures put { (text : List ℕ) × Put page.old page.new text }
+    ensures bound { page.new.at ≤ page.old.at + 264 }
+{
+    match n[0] {
+        0 => put_made(page, settings_in(n)),
+        1 => put_stepped(page, drive_in(n), n[OWN], n[OWN + 1], n[OWN + 2]),
+        2 => {
+            let a = drive::target(drive_in(n), n[OWN]);
+            put_with_record(page, &[a.number], a.drive);
+        }
+        _ => {
+            let a = drive::clear(drive_in(n));
+            put_with_record(page, &[a.number], a.drive);
+        }
+    }
 }
 
 fn start() -> Calls
@@ -273,107 +207,63 @@ fn start() -> Calls
 }
 
 // The bytes of a chunk, whether lines stand whole in it or not. A call is answered by 264 bytes at most.
-fn fed(s: Calls, chunk: &[u8], out: &mut [u8], at: usize) -> Passed
-    requires { at + 264 * length chunk.now ≤ length out.old }
-    ensures { (as_fed result.calls ≡ fed_of is_call calls_after (as_fed s) chunk.now) × (result.place ≤ at + 264 * length chunk.now) }
+fn fed(page: &mut Page, s: Calls, chunk: &[u8]) -> Calls
+    requires { Room page.old (264 * length chunk.now) }
+    ensures value { as_fed result ≡ fed_of is_call calls_after (as_fed s) chunk.now }
+    ensures put { (text : List ℕ) × Put page.old page.new text }
+    ensures bound { page.new.at ≤ page.old.at + 264 * length chunk.now }
 {
-    let mut before = s.before;
-    let mut line = s.line;
-    let mut numbers = s.numbers;
-    let mut begun = s.begun;
-    let mut stopped = s.stopped;
-    let mut place = at;
-    let mut i = 0;
-    while i < chunk.len() && !stopped {
-        let f = feeding::line_fed(line, chunk, i, &mut numbers);
-        i = f.place;
-        if f.ended & (!f.line.bad & is_call(&numbers, f.line.count)) {
-            place = put_answer(&numbers, out, place);
-            before = feeding::next(before);
-            line = text::line_start();
-            begun = false;
+    let mut now = s;
+    let mut rest = chunk;
+    while !rest.is_empty() && !now.stopped {
+        let f = feeding::line_fed(now.line, rest, &mut now.numbers);
+        rest = f.rest;
+        if f.ended && !f.line.bad && is_call(&now.numbers, f.line.count) {
+            put_answer(page, &now.numbers);
+            now.before = feeding::next(now.before);
+            now.line = text::line_start();
+            now.begun = false;
         } else {
-            line = f.line;
-            begun = true;
-            stopped = f.ended;
+            now.line = f.line;
+            now.begun = true;
+            now.stopped = f.ended;
         }
     }
-    Passed {
-        calls: Calls {
-            before: before,
-            line: line,
-            numbers: numbers,
-            begun: begun,
-            stopped: stopped,
-        },
-        place: place,
+    now
+}
+
+impl Feed for Calls {
+    ghost room = { 264 };
+
+    ghost can_feed = { λ s. ⊤ };
+
+    ghost feeds = { FedCalls };
+
+    ghost over = { λ s. s.stopped };
+
+    ghost laws = { calls_laws };
+
+    fn fed(self, page: &mut Page, chunk: &[u8]) -> Calls {
+        fed(page, self, chunk)
+    }
+
+    fn is_over(&self) -> bool {
+        self.stopped
     }
 }
 
 // What is written last: that a line is bad, where one is no call or has no line feed.
-fn ended(s: Calls, out: &mut [u8]) -> usize
-    requires { 25 ≤ length out.old }
-    ensures { (result ≡ 0 + length (cond s.begun (bad_text (one_more s.before)) []))
-        × (out.new ≡ written out.old 0 (cond s.begun (bad_text (one_more s.before)) [])) × (result ≤ 25) }
+fn ended(page: &mut Page, s: Calls)
+    requires { Room page.old 25 }
+    ensures put { Put page.old page.new (cond s.begun (bad_text (one_more s.before)) []) }
+    ensures bound { page.new.at ≤ page.old.at + 25 }
 {
     if s.begun {
-        return writing::put_bad(feeding::next(s.before), out, 0);
-    }
-    0
-}
-
-// What a turn leaves: the calls; whether the read failed; whether all that was written was sent; whether to go on.
-#[derive(Clone, Copy)]
-pub struct Turned {
-    pub calls: Calls,
-    pub unread: bool,
-    pub sent: bool,
-    pub going: bool,
-}
-
-// What was read is fed, and what it is answered is sent.
-fn turn<W: Write>(to: &mut W, s: Calls, got: Got, bytes: &[u8], out: &mut [u8]) -> Turned
-    requires { (264 * length bytes.now ≤ length out.old) × IsPrefixLen got.size bytes.now }
-    ensures { (as_fed result.calls ≡ fed_of is_call calls_after (as_fed s) (take got.size bytes.now))
-        × (result.unread ≡ got.failed) × (result.going ≡ ltb 0 got.size && result.sent && not result.calls.stopped) }
-{
-    let size = got.size;
-    let p = fed(s, &bytes[..size], out, 0);
-    let calls = p.calls;
-    let sent = pipes::send(to, out, p.place);
-    Turned {
-        calls: calls,
-        unread: got.failed,
-        sent: sent,
-        going: (0 < size) & sent & !calls.stopped,
+        page.put_bad(feeding::next(s.before));
     }
 }
 
-// Turn by turn, until a line came that is no call, the input is over, or a read or a write failed.
-// A proved loop has to end, and nothing says that the input does: so the turns are counted, up to a number that no run uses up.
-fn read_through<R: Read, W: Write>(
-    from: &mut R,
-    to: &mut W,
-    first: Turned,
-    bytes: &mut [u8],
-    out: &mut [u8],
-) -> Turned
-    requires { 264 * length bytes.old ≤ length out.old }
-    ensures { 0 < length bytes.old → first.going ≡ true
-        → Through (as_fed first.calls) (R.remaining from.old) (R.remaining from.new) result 18446744073709551615 }
-{
-    let mut t = first;
-    for turns in 0..u64::MAX {
-        if !t.going {
-            break;
-        }
-        let got = pipes::receive(from, bytes);
-        t = turn(to, t.calls, got, bytes, out);
-    }
-    t
-}
-
-// All the calls, and what is written last; where a read failed nothing is. So where all of an input was read, of fewer than 2^64 − 1
+// All the calls, and what is written last; where a read or a write failed nothing is. So where all of an input was read, of fewer than 2^64 − 1
 // bytes, and all that was written was sent, there were as many calls as it has lines that are calls, up to the first that is none, and
 // whether one is none stands there too.
 fn run_through<R: Read, W: Write>(
@@ -381,32 +271,17 @@ fn run_through<R: Read, W: Write>(
     to: &mut W,
     bytes: &mut [u8],
     out: &mut [u8],
-) -> Turned
+) -> Result<Calls, Trouble>
     requires { (0 < length bytes.old) × (264 * length bytes.old ≤ length out.old) }
-    ensures { result.unread ≡ false → result.sent ≡ true → IfSome (R.remaining from.old) (λ input. length input < 18446744073709551615
-        → (result.calls.before ≡ after_all calls_after 0 (good_lines is_call input)) × (result.calls.begun ≡ ends_bad is_call input)) }
+    ensures { IfOk result (λ last. IfSome (R.remaining from.old) (λ input. length input < 18446744073709551615
+        → (last.before ≡ after_all calls_after 0 (good_lines is_call input)) × (last.begun ≡ ends_bad is_call input))) }
 {
-    let first = Turned {
-        calls: start(),
-        unread: false,
-        sent: true,
-        going: true,
-    };
-    let t = read_through(from, to, first, bytes, out);
-    if t.unread {
-        return t;
-    }
-    if !t.sent {
-        return t;
-    }
-    let place = ended(t.calls, out);
-    let sent = pipes::send(to, out, place);
-    Turned {
-        calls: t.calls,
-        unread: false,
-        sent: sent,
-        going: false,
-    }
+    let s = pipes::feed_through(from, to, start(), bytes, out)?;
+    let mut closing = Page::new(out, 0);
+    ended(&mut closing, s);
+    let end = closing.place();
+    pipes::send(to, &out[..end])?;
+    Ok(s)
 }
 
 // Where a read or a write failed words on standard error say so.
@@ -414,12 +289,7 @@ fn main(rt: HostRuntime) {
     let mut bytes = [0u8; 256];
     // 264 places for each of them, as `fed` asks
     let mut out = [0u8; 67584];
-    let t = run_through(&mut rt.stdin(), &mut rt.stdout(), &mut bytes, &mut out);
-    if t.unread {
-        pipes::unread(&mut rt.stderr(), b"probe");
-        return;
-    }
-    if !t.sent {
-        pipes::unsent(&mut rt.stderr(), b"probe");
+    if let Err(why) = run_through(&mut rt.stdin(), &mut rt.stdout(), &mut bytes, &mut out) {
+        let _ = pipes::tell(&mut rt.stderr(), b"probe", why.words());
     }
 }
