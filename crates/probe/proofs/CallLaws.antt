@@ -2,15 +2,18 @@
 -- says of their lines (`calls`).
 -- Assumes nothing.
 use mathlib.Core.Path.{◌≡◌, refl, sym, ◌∙◌, ap, subst}
-use mathlib.Core.Bool.{Bool, true, false, not, ◌&&◌, true≢false}
+use mathlib.Core.Bool.{Bool, true, false, not, ◌&&◌, ◌||◌, true≢false}
 use mathlib.Core.List.{List, [], ◌++◌}
 use mathlib.Core.Logic.{⊎_elim}
 use Prim.Native.Nat.{ℕ, ◌+◌, ◌*◌, ◌≤◌, ◌<◌}
 use native.Mathlib.Omega.{arith}
 use borrow.Author.Tests.{eqb-true, ne_eqb}
 use lib.Dec.{eqb}
+use mir.Syntax.{w32}
+use mir.Val.{SFits, of_z}
+use Rattle.fixed.proofs.Same.{same_word}
 use lib.IntN.{ℤ, pos}
-use lib.ListN.{length, take, replicate}
+use lib.ListN.{length, get_or, take, replicate}
 use lib.Seq.{get_or-take, length-take-le}
 use Rattle.text.specs.declared.Line.{Line}
 use Rattle.text.specs.Automaton.{line_start}
@@ -121,3 +124,12 @@ pub calls : (input : List ℕ) →
     ((fed_of is_call calls_after (line_due 0 (replicate most (pos 0))) input).kept ≡ after_all calls_after 0 (good_lines is_call input))
     × ((fed_of is_call calls_after (line_due 0 (replicate most (pos 0))) input).begun ≡ ends_bad is_call input)
 calls input = let c = comes is_call calls_after (λ (n : ℕ) (ns : List ℤ). []) 0 (replicate most (pos 0)) input room in (c.keeps, c.ends)
+
+-- ════ the first number says which call it is: w are its bits, n is how many numbers there are, and f whether the flags are
+abbrev pub call_bits : ℕ → ℕ → Bool → Bool
+call_bits w n f =
+    (eqb n record_at && eqb w 0) || (eqb n most && (eqb w 1 && f)) || (eqb n (own_at + 1) && (eqb w 2 && f)) || (eqb n own_at && (eqb w 3 && f))
+
+pub by_bits : (ns : List ℤ) (n : ℕ) → SFits w32 (get_or ns 0 (pos 0)) → call_by ns n ≡ call_bits (of_z w32 (get_or ns 0 (pos 0))) n (flags ns)
+unfolding call_by
+by_bits ns n h = rw (same_word 0 refl h, same_word 1 refl h, same_word 2 refl h, same_word 3 refl h) refl

@@ -17,8 +17,11 @@ abbrev pub most : ℕ
 most = own_at + 3
 
 -- a word of the record that is a flag is 0 or 1: whether a count was seen is its second, whether it is tripped its last
+abbrev pub is_flag : ℤ → Bool
+is_flag word = within (pos 0) (pos 1) word
+
 abbrev pub flags : List ℤ → Bool
-flags ns = within (pos 0) (pos 1) (get_or ns (record_at + 1) (pos 0)) && within (pos 0) (pos 1) (get_or ns (record_at + 14) (pos 0))
+flags ns = is_flag (get_or ns (record_at + 1) (pos 0)) && is_flag (get_or ns (record_at + 14) (pos 0))
 
 -- so many numbers, of which the first says which call it is: 0 make, 1 step, 2 target, 3 clear
 abbrev pub call : List ℤ → ℤ → Bool

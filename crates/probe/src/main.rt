@@ -2,20 +2,22 @@
 // model of the drive, in any language, can be held against it word by word.
 #![tactic(auto)]
 
-ghost use Rattle.std.specs.Prelude.{◌≡◌, ⊤, ◌*◌, ◌+◌, ◌<◌, ◌≤◌, cond, [], pos, length, replicate, List, ℕ, IfOk, IfSome};
+ghost use Rattle.std.specs.Prelude.{◌≡◌, ⊤, ◌*◌, ◌+◌, ◌<◌, ◌≤◌, cond, [], pos, get_or, is_some, length, replicate, List, ℕ, IfOk, IfSome};
 ghost use Rattle.writing.specs.Decimal.{bad_text};
 ghost use Rattle.writing.specs.Page.{Put, Room};
 ghost use Rattle.feeding.specs.Lines.{one_more, good_lines, ends_bad, after_all};
 ghost use Rattle.feeding.specs.Feeding.{line_due, fed_of};
-ghost use Rattle.probe.specs.Calls.{most, call_by, is_call, calls_after, as_fed};
+ghost use Rattle.probe.specs.Calls.{most, record_at, is_flag, flags, call_by, is_call, calls_after, as_fed};
 ghost use Rattle.probe.specs.Feeds.{FedCalls, calls_laws};
 
+use drive::Answered;
 use drive_record::{Command, Drive, Integrals};
 use feeding::Feed;
 use field::Field;
 use pipes::Trouble;
 use settings::Settings;
 use shaft::Shaft;
+use stages::Stepped;
 use std::io::{Read, Write};
 use text::Line;
 use writing::Page;
@@ -29,6 +31,15 @@ pub struct Calls {
     pub numbers: [i32; ALL],
     pub begun: bool,
     pub stopped: bool,
+}
+
+// What a line asks of the drive.
+#[derive(Clone, Copy)]
+enum Call {
+    Make(Settings),
+    Step(Drive, i32, i32, i32),
+    Target(Drive, i32),
+    Clear(Drive),
 }
 
 // Numbers in: the call, the settings, 15 words of the record, then the call's own. The places of these three, and the most there are.
@@ -53,14 +64,27 @@ fn settings_in(n: &[i32; ALL]) -> Settings {
     settings::of_words(&words[SETTINGS..])
 }
 
-fn shaft_in(n: &[i32; ALL]) -> Shaft {
-    Shaft {
+// A flag is 0 or 1.
+fn flag(word: i32) -> Option<bool>
+    ensures { is_some result ≡ is_flag word }
+{
+    match word {
+        0 => Some(false),
+        1 => Some(true),
+        _ => None,
+    }
+}
+
+fn shaft_in(n: &[i32; ALL]) -> Option<Shaft>
+    ensures { is_some result ≡ is_flag (get_or n.now (record_at + 1) (pos 0)) }
+{
+    Some(Shaft {
         count: n[RECORD],
-        seen: n[SEEN] != 0,
+        seen: flag(n[SEEN])?,
         sum: n[RECORD + 2],
         steps: n[RECORD + 3],
         speed: n[RECORD + 4],
-    }
+    })
 }
 
 fn command_in(n: &[i32; ALL]) -> Command {
@@ -87,28 +111,31 @@ fn integrals_in(n: &[i32; ALL]) -> Integrals {
     }
 }
 
-fn drive_in(n: &[i32; ALL]) -> Drive {
-    Drive {
+fn drive_in(n: &[i32; ALL]) -> Option<Drive>
+    ensures { is_some result ≡ flags n.now }
+{
+    Some(Drive {
         settings: settings_in(n),
-        shaft: shaft_in(n),
+        shaft: shaft_in(n)?,
         command: command_in(n),
         field: field_in(n),
         integrals: integrals_in(n),
-        tripped: n[TRIPPED] != 0,
-    }
+        tripped: flag(n[TRIPPED])?,
+    })
 }
 
-// Whether so many numbers are a call: 0 makes a drive, 1 steps it, 2 sets its target, 3 clears it. A flag is 0 or 1.
-fn is_call(n: &[i32; ALL], count: usize) -> bool
-    ensures { result ≡ call_by n.now count }
+// The call that so many numbers are, if they are one: 0 makes a drive, 1 steps it, 2 sets its target, 3 clears it.
+#[tactic(auto, unfolding(crate::specs::Calls::call_by))]
+fn call_in(n: &[i32; ALL], count: usize) -> Option<Call>
+    ensures { is_some result ≡ call_by n.now count }
 {
-    let call = n[0];
-    let flags = fixed::within(0, 1, n[SEEN]) & fixed::within(0, 1, n[TRIPPED]);
-    let made = (count == RECORD) & fixed::within(0, 0, call);
-    let stepped = (count == ALL) & (fixed::within(1, 1, call) & flags);
-    let targeted = (count == WITH_TARGET) & (fixed::within(2, 2, call) & flags);
-    let cleared = (count == OWN) & (fixed::within(3, 3, call) & flags);
-    made | stepped | targeted | cleared
+    match n[0] {
+        0 if count == RECORD => Some(Call::Make(settings_in(n))),
+        1 if count == ALL => Some(Call::Step(drive_in(n)?, n[OWN], n[OWN + 1], n[OWN + 2])),
+        2 if count == WITH_TARGET => Some(Call::Target(drive_in(n)?, n[OWN])),
+        3 if count == OWN => Some(Call::Clear(drive_in(n)?)),
+        _ => None,
+    }
 }
 
 // Numbers out: the record's 15 words.
@@ -156,12 +183,19 @@ fn put_made(page: &mut Page, s: Settings)
     }
 }
 
-fn put_stepped(page: &mut Page, d: Drive, ia: i32, ib: i32, count: i32)
+fn put_answered(page: &mut Page, a: Answered)
     requires { Room page.old 264 }
     ensures put { (text : List ℕ) × Put page.old page.new text }
     ensures bound { page.new.at ≤ page.old.at + 264 }
 {
-    let s = drive::step(d, ia, ib, count);
+    put_with_record(page, &[a.number], a.drive);
+}
+
+fn put_stepped(page: &mut Page, s: Stepped)
+    requires { Room page.old 264 }
+    ensures put { (text : List ℕ) × Put page.old page.new text }
+    ensures bound { page.new.at ≤ page.old.at + 264 }
+{
     let p = s.pulses;
     let numbers = [
         s.number,
@@ -175,22 +209,16 @@ fn put_stepped(page: &mut Page, d: Drive, ia: i32, ib: i32, count: i32)
     put_with_record(page, &numbers, s.drive);
 }
 
-fn put_answer(page: &mut Page, n: &[i32; ALL])
+fn put_answer(page: &mut Page, call: Call)
     requires { Room page.old 264 }
     ensures put { (text : List ℕ) × Put page.old page.new text }
     ensures bound { page.new.at ≤ page.old.at + 264 }
 {
-    match n[0] {
-        0 => put_made(page, settings_in(n)),
-        1 => put_stepped(page, drive_in(n), n[OWN], n[OWN + 1], n[OWN + 2]),
-        2 => {
-            let a = drive::target(drive_in(n), n[OWN]);
-            put_with_record(page, &[a.number], a.drive);
-        }
-        _ => {
-            let a = drive::clear(drive_in(n));
-            put_with_record(page, &[a.number], a.drive);
-        }
+    match call {
+        Call::Make(s) => put_made(page, s),
+        Call::Step(d, ia, ib, count) => put_stepped(page, drive::step(d, ia, ib, count)),
+        Call::Target(d, wanted) => put_answered(page, drive::target(d, wanted)),
+        Call::Clear(d) => put_answered(page, drive::clear(d)),
     }
 }
 
@@ -218,8 +246,11 @@ fn fed(page: &mut Page, s: Calls, chunk: &[u8]) -> Calls
     while !rest.is_empty() && !now.stopped {
         let f = feeding::line_fed(now.line, rest, &mut now.numbers);
         rest = f.rest;
-        if f.ended && !f.line.bad && is_call(&now.numbers, f.line.count) {
-            put_answer(page, &now.numbers);
+        if f.ended
+            && !f.line.bad
+            && let Some(call) = call_in(&now.numbers, f.line.count)
+        {
+            put_answer(page, call);
             now.before = feeding::next(now.before);
             now.line = text::line_start();
             now.begun = false;
