@@ -67,7 +67,7 @@ pub fn make(s: Settings) -> Result<Drive, Refusal>
     Ok(fresh(accepted))
 }
 
-// The number of what `make` answered: 0 of a drive.
+// The number of what `make` answered: 0 of a drive. A function: promises/specs/Settled `NumberSettled` is of it.
 pub fn number_of(m: Result<Drive, Refusal>) -> i32
     ensures { result ≡ made_number m }
 {

@@ -34,7 +34,7 @@ fn sum(a: i32, m: i32, b: i32, n: i32) -> i32
     fixed::down(fixed::times(a, m) + fixed::times(b, n), 4096) as i32
 }
 
-// (a·m − b·n)/4096 down.
+// (a·m − b·n)/4096 down. Another operation than the sum: as one function the two would take a sign, which the rules do not have.
 fn difference(a: i32, m: i32, b: i32, n: i32) -> i32
     requires { FrameSized a b m n }
     ensures { result ≡ down_of (a *ℤ m -ℤ b *ℤ n) (pos 4096) }
@@ -61,6 +61,7 @@ pub fn park(v: Stator, h: Heading) -> Rotor
     }
 }
 
+// The way back, with the signs turned; no twin of the way there.
 #[tactic(auto, unfolding(crate::specs::Frames::inverse_park))]
 pub fn inverse_park(v: Rotor, h: Heading) -> Stator
     requires { FrameSized v.d v.q h.sin h.cos }

@@ -70,6 +70,7 @@ fn place_after(at: usize) -> usize
     if at < 127 { at + 1 } else { 0 }
 }
 
+// No twin of the place after: that begins anew at the end, and this stays there.
 #[tactic(auto, unfolding(crate::specs::Ring::one_more))]
 fn one_more(real: usize) -> usize
     ensures rows { result ≡ one_more real }

@@ -98,6 +98,7 @@ pub fn tied(kp: i32, kcor: i32, ki: i32) -> bool
     (asked <= has) & (has <= asked)
 }
 
+// The two sets are the same as above and what is asked of them is not: one function of both would take that as a parameter, and be no shorter.
 fn gains_tied(s: Settings) -> bool
     ensures { result ≡ gains_tied s }
 {

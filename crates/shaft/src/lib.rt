@@ -125,6 +125,7 @@ pub fn weakened(f: i32, n: i32) -> i32
     ensures { result ≡ weakened_of f n }
 {
     let m = n.abs();
+    // named, so that a wrong test changes a fact of the proof and not a name
     let slow = m <= 4096;
     if slow {
         f

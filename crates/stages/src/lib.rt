@@ -65,6 +65,7 @@ fn speed_gains(s: Settings) -> Gains
     }
 }
 
+// The settings' words have names and no index, as C has them, so that one function for both sets would still name these three.
 #[tactic(auto, unfolding(crate::specs::Step::current_gains))]
 fn current_gains(s: Settings) -> Gains
     ensures { result ≡ current_gains s }
