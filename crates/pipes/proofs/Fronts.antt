@@ -47,10 +47,18 @@ front_second a b c xs ys h (n, l, k) =
     take-add (length xs) n (xs ++ ys) ∙ rw (take_at xs ys (length xs) refl, drop_at xs ys (length xs) refl) refl in
     (length xs + n, omega (arith, l, length-append xs ys), subst (Appends a c) (sym e) (Appends-trans a b c xs (take n ys) h k))
 
--- what is sent of a page, from its first place up to where it is, is what was put on it
+-- what stands on a page, from its first place up to where it is, is what was put on it
+page_front : (p q : Page) (xs out : List ℕ) (n : ℕ) → Put p q xs → p.at ≡ 0 → n ≡ q.at → out ≡ q.out.now → take n out ≡ xs
+unfolding written
+page_front p q xs out n put first at is =
+    rw (at, is, put.place, put.bytes, first) (take_at xs (drop (0 + length xs) p.out.now) (0 + length xs) (omega arith))
+
+-- so that is what is sent of it, or a front of that
 pub page_sent : (v w : Option (List ℕ)) (p q : Page) (xs out : List ℕ) (n : ℕ)
     → Put p q xs → p.at ≡ 0 → n ≡ q.at → out ≡ q.out.now → Appends v w (take n out) → Appends v w xs
-unfolding written
-page_sent v w p q xs out n put first at is sent =
-    let e : take n out ≡ xs = rw (at, is, put.place, put.bytes, first) (take_at xs (drop (0 + length xs) p.out.now) (0 + length xs) (omega arith)) in
-    subst (Appends v w) e sent
+page_sent v w p q xs out n put first at is sent = subst (Appends v w) (page_front p q xs out n put first at is) sent
+
+pub page_part : (v w : Option (List ℕ)) (p q : Page) (xs out : List ℕ) (n : ℕ)
+    → Put p q xs → p.at ≡ 0 → n ≡ q.at → out ≡ q.out.now → AppendsFront v w (take n out) (length (take n out)) → AppendsFront v w xs (length xs)
+page_part v w p q xs out n put first at is part =
+    subst (λ (bs : List ℕ). AppendsFront v w bs (length bs)) (page_front p q xs out n put first at is) part

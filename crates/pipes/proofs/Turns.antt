@@ -2,11 +2,18 @@
 -- Assumes nothing.
 use Rattle.std.proofs.Common.{◌≡◌, ℕ, ◌+◌, ◌≤◌, ◌<◌, List, [], ◌++◌, length, subst, sym, ◌∙◌, arith, append-nil, length-append}
 use mathlib.Core.Bool.{true≢false}
-use Rattle.std.specs.Prelude.{Option, Bool, true, false}
-use Rattle.std.specs.Io.KnownBytes.{Appends, Consumes, IsAtEnd}
-use Rattle.std.proofs.KnownBytes.{Appends-nil, Appends-trans, Consumes-nil, Consumes-trans}
+use Rattle.std.specs.Prelude.{Option, Result, Ok, Err, OnErr, Bool, true, false}
+use Rattle.std.specs.Io.KnownBytes.{Appends, Consumes, Keeps, IsAtEnd}
+use Rattle.std.proofs.KnownBytes.{Appends-nil, Appends-trans, Consumes-nil, Consumes-trans, Consumes-kept}
 use Rattle.feeding.specs.Feeds.{FeedLaws}
-use Rattle.pipes.specs.Through.{Through}
+use Rattle.pipes.specs.Counts.{AppendsFront}
+use Rattle.pipes.specs.Through.{Through, BrokenOff}
+use Rattle.pipes.proofs.Fronts.{front_second}
+use Rattle.std.proofs.lemmas.List.{take_all}
+
+pub on_err : {T E P : Type 0} (r : Result T E) → P → OnErr r P
+on_err (Ok x) h = tt
+on_err (Err e) h = h
 
 module _ {S : Type 0} (feeds : S → List ℕ → S → List ℕ → Type 0) where
   -- after turns that read a byte at least each
@@ -56,4 +63,27 @@ module _ {S : Type 0} (feeds : S → List ℕ → S → List ℕ → Type 0) whe
       fed = t.fed;
       sent = t.sent;
       ends = λ e l. end;
+    }
+
+  -- ════ where a read or a write failed
+  module _ {first last : S} {f g v w : Option (List ℕ)} {turns : ℕ} (t : Fed first last f g v w turns) where
+    pub unread : (h : Option (List ℕ)) → Keeps g h → BrokenOff feeds first f h v w
+    unread h kept = record {
+      eaten = t.eaten;
+      text = t.text;
+      last = last;
+      read = Consumes-kept f g h _ t.read kept;
+      fed = t.fed;
+      sent = (length t.text, omega arith, subst (Appends v w) (sym (take_all (length t.text) t.text (omega arith))) t.sent);
+    }
+
+    pub unsent : FeedLaws feeds → (next : S) (h x : Option (List ℕ)) (chunk text : List ℕ) → Consumes g h chunk → feeds last chunk next text
+        → AppendsFront w x text (length text) → BrokenOff feeds first f h v x
+    unsent laws next h x chunk text read fed part = record {
+      eaten = t.eaten ++ chunk;
+      text = t.text ++ text;
+      last = next;
+      read = Consumes-trans f g h _ _ t.read read;
+      fed = laws.more first last next t.eaten chunk t.text text t.fed fed;
+      sent = front_second v w x t.text text t.sent part;
     }

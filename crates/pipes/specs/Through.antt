@@ -1,6 +1,7 @@
 -- What stands after an input was fed through: f is what the reader had left at first, g what it has now; v is what the writer held, w what it holds.
 use Rattle.std.specs.Prelude.{◌≡◌, ℕ, ◌<◌, Bool, false, List, length, Option}
 use Rattle.std.specs.Io.KnownBytes.{Appends, Consumes, IsAtEnd}
+use Rattle.pipes.specs.Counts.{AppendsFront}
 
 pub record Through {S : Type 0} (feeds : S → List ℕ → S → List ℕ → Type 0) (over : S → Bool) (first last : S) (f g v w : Option (List ℕ)) : Type 0 where
   -- the bytes that were read, and what they are answered
@@ -11,3 +12,12 @@ pub record Through {S : Type 0} (feeds : S → List ℕ → S → List ℕ → T
   pub sent : Appends v w text
   -- it ends only where the input does, or nothing more is looked at
   pub ends : over last ≡ false → length eaten < 18446744073709551615 → IsAtEnd g
+
+-- what stands where a read or a write failed: last is what was fed what was read, and a front of what that is answered was sent
+pub record BrokenOff {S : Type 0} (feeds : S → List ℕ → S → List ℕ → Type 0) (first : S) (f g v w : Option (List ℕ)) : Type 0 where
+  pub eaten : List ℕ
+  pub text : List ℕ
+  pub last : S
+  pub read : Consumes f g eaten
+  pub fed : feeds first eaten last text
+  pub sent : AppendsFront v w text (length text)

@@ -3,10 +3,10 @@
 // input, output and error say nothing of theirs.
 #![tactic(auto)]
 
-ghost use Rattle.std.specs.Prelude.{◌≡◌, ◌<◌, ◌≤◌, ◌*◌, ◌++◌, Ok, length, take, IfOk, OnOk, IfErr};
+ghost use Rattle.std.specs.Prelude.{◌≡◌, ◌<◌, ◌≤◌, ◌*◌, ◌++◌, Ok, length, take, IfOk, OnOk, OnErr, IfErr};
 ghost use Rattle.std.specs.Io.KnownBytes.{Appends, Consumes, Keeps, IsAtEnd};
 ghost use Rattle.pipes.specs.Counts.{AppendsFront, AppendsLess, IsPrefixLen};
-ghost use Rattle.pipes.specs.Through.{Through};
+ghost use Rattle.pipes.specs.Through.{Through, BrokenOff};
 ghost use Rattle.pipes.specs.Words.{words_of};
 
 use feeding::Feed;
@@ -76,7 +76,9 @@ pub fn feed_through<R: Read, W: Write, F: Feed>(
     out: &mut [u8],
 ) -> Result<F, Trouble>
     requires { F.can_feed first × (0 < length bytes.old) × (F.room * length bytes.old ≤ length out.old) }
-    ensures { IfOk result (λ last. Through F.feeds F.over first last (R.remaining from.old) (R.remaining from.new) (W.contents to.old) (W.contents to.new)) }
+    ensures through { IfOk result (λ last. Through F.feeds F.over first last
+        (R.remaining from.old) (R.remaining from.new) (W.contents to.old) (W.contents to.new)) }
+    ensures broken_off { OnErr result (BrokenOff F.feeds first (R.remaining from.old) (R.remaining from.new) (W.contents to.old) (W.contents to.new)) }
 {
     let mut s = first;
     for turns in 0..u64::MAX {

@@ -1,8 +1,8 @@
 -- `pipes::feed_through` meets its contract.
 -- Assumes nothing.
 use Rattle.std.proofs.Common.{Ok, refl, sym, ap, rules, arith}
-use Rattle.pipes.proofs.Fronts.{page_sent}
-use Rattle.pipes.proofs.Turns.{no_turn, turn_more, over_ends, input_ends, turns_end}
+use Rattle.pipes.proofs.Fronts.{page_sent, page_part}
+use Rattle.pipes.proofs.Turns.{no_turn, turn_more, over_ends, input_ends, turns_end, unread, unsent, on_err}
 use Rattle.pipes.proofs.feed_through.Goals as goal
 
 pub loop-turns-init : goal.loop-turns-init
@@ -20,16 +20,26 @@ loop-turns-preserved g c =
           (page_sent _ _ _ _ _ _ _ put.2 c.new-page.ensures.place c.place-place.ensures (search (rules, put.2.same)) c.in_ok-send.ensures.all);
     }
 
-pub returns-then-size-eq0 : goal.returns-then-size-eq0
-returns-then-size-eq0 g c = input_ends _ _ c.loop-turns.invariant.turns _ (rw c.if-size-eq0.true at c.in_ok-size.ensures.read)
+pub returns-then-size-eq0-clause-through : goal.returns-then-size-eq0-clause-through
+returns-then-size-eq0-clause-through g c = input_ends _ _ c.loop-turns.invariant.turns _ (rw c.if-size-eq0.true at c.in_ok-size.ensures.read)
     (c.in_ok-size.ensures.end (ap Ok c.if-size-eq0.true) (omega (arith, c.receive.auto.bytes, c.loop-turns.invariant.chunk, c.requires.1)))
 
-pub returns-then-is_over : goal.returns-then-is_over
-returns-then-is_over g c =
+pub returns-then-is_over-clause-through : goal.returns-then-is_over-clause-through
+returns-then-is_over-clause-through g c =
     let put = c.fed-s.ensures.put in
     over_ends _ _ (turn_more _ g.F.Feed.laws _ _ _ c.loop-turns.invariant.turns _ _ (omega (arith, c.in_ok-size.ensures.size, c.if-size-eq0.false)) c.in_ok-size.ensures.read put.1
     (page_sent _ _ _ _ _ _ _ put.2 c.new-page.ensures.place c.place-place.ensures (search (rules, put.2.same)) c.in_ok-send.ensures.all))
     (sym c.if-is_over.ensures)
 
-pub returns : goal.returns
-returns g c = turns_end _ _ c.loop-turns.invariant.turns (omega arith)
+pub returns-clause-through : goal.returns-clause-through
+returns-clause-through g c = turns_end _ _ c.loop-turns.invariant.turns (omega arith)
+
+-- a read or a write failed
+pub returns-in_err-size-clause-broken_off : goal.returns-in_err-size-clause-broken_off
+returns-in_err-size-clause-broken_off g c = on_err _ (unread _ c.loop-turns.invariant.turns _ c.in_err-size.ensures.none.1)
+
+pub returns-in_err-send-clause-broken_off : goal.returns-in_err-send-clause-broken_off
+returns-in_err-send-clause-broken_off g c =
+    let put = c.fed-s.ensures.put in
+    on_err _ (unsent _ c.loop-turns.invariant.turns g.F.Feed.laws _ _ _ _ _ c.in_ok-size.ensures.read put.1
+    (page_part _ _ _ _ _ _ _ put.2 c.new-page.ensures.place c.place-place.ensures (search (rules, put.2.same)) c.in_err-send.ensures.part))

@@ -10,5 +10,5 @@ returns g c =
     let h = c.put_header.ensures.put in
     let k = c.ended.ensures.put in
     finished c.args.d _ _ _ _ _ _ _ _ c.start.ensures
-    (page_sent _ _ _ _ _ _ _ h c.new-header.ensures.place c.place-place.ensures (search (rules, h.same)) c.in_ok-send.ensures.all) c.in_ok-s.ensures
+    (page_sent _ _ _ _ _ _ _ h c.new-header.ensures.place c.place-place.ensures (search (rules, h.same)) c.in_ok-send.ensures.all) c.in_ok-s.ensures.through
     (page_sent _ _ _ _ _ _ _ k c.new-closing.ensures.place c.place-end.ensures (search (rules, k.same)) c.in_ok-send-2.ensures.all)
