@@ -234,7 +234,8 @@ fn start() -> Calls
     }
 }
 
-// The bytes of a chunk, whether lines stand whole in it or not. A call is answered by 264 bytes at most.
+// The bytes of a chunk, whether lines stand whole in it or not. A call is answered by 264 bytes at most. The loop is `stream::fed`'s, over another kind
+// of line: one for both would move the fields of `Stream` that stream/specs/Streaming `as_fed` names, and what is said there stays.
 fn fed(page: &mut Page, s: Calls, chunk: &[u8]) -> Calls
     requires { Room page.old (264 * length chunk.now) }
     ensures value { as_fed result ≡ fed_of is_call calls_after (as_fed s) chunk.now }

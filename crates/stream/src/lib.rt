@@ -62,6 +62,7 @@ fn row_told(page: &mut Page, t: Tally, row: [i32; 3]) -> Tally
 {
     let s = drive::step_sound(t.drive, row[0], row[1], row[2]);
     page.put_line(&[s.pulses.a, s.pulses.b, s.pulses.c, s.number]);
+    // `&` below, since with `&&` the proof of the counts did not close: it loses which way the step went
     let accepted = s.number == 0;
     Tally {
         drive: s.drive,
