@@ -65,7 +65,7 @@ fn main(rt: HostRuntime) {
     let times = match pipes::receive(&mut rt.stdin(), &mut bytes) {
         Ok(size) => size,
         Err(why) => {
-            let _ = pipes::tell(&mut rt.stderr(), b"measure_run", why.words());
+            pipes::tell_trouble(&mut rt.stderr(), b"measure_run", why);
             return;
         }
     };

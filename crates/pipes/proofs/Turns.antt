@@ -1,19 +1,29 @@
 -- Turn after turn: what was read, what stands after it, and what was written of it.
 -- Assumes nothing.
-use Rattle.std.proofs.Common.{◌≡◌, ℕ, ◌+◌, ◌≤◌, ◌<◌, List, [], ◌++◌, length, subst, sym, ◌∙◌, arith, append-nil, length-append}
+use Rattle.std.proofs.Common.{◌≡◌, ℕ, ◌+◌, ◌≤◌, ◌<◌, List, [], ◌++◌, length, subst, sym, ap, ◌∙◌, arith, append-nil, length-append}
 use mathlib.Core.Bool.{true≢false}
-use Rattle.std.specs.Prelude.{Option, Result, Ok, Err, OnErr, Bool, true, false}
+use Rattle.std.specs.Prelude.{Option, Bool, true, false, Result, Ok, Err, IfErr}
 use Rattle.std.specs.Io.KnownBytes.{Appends, Consumes, Keeps, IsAtEnd}
 use Rattle.std.proofs.KnownBytes.{Appends-nil, Appends-trans, Consumes-nil, Consumes-trans, Consumes-kept}
 use Rattle.feeding.specs.Feeds.{FeedLaws}
+use Rattle.pipes.specs.declared.Trouble.{Trouble}
+use Rattle.pipes.specs.declared.Trouble.TheVariants.{Unread, Unsent}
 use Rattle.pipes.specs.Counts.{AppendsFront}
 use Rattle.pipes.specs.Through.{Through, BrokenOff}
 use Rattle.pipes.proofs.Fronts.{front_second}
 use Rattle.std.proofs.lemmas.List.{take_all}
 
-pub on_err : {T E P : Type 0} (r : Result T E) → P → OnErr r P
-on_err (Ok x) h = tt
-on_err (Err e) h = h
+-- what holds whatever the error is
+pub any_err : {T E : Type 0} {P : E → Type 0} (r : Result T E) → ((e : E) → P e) → IfErr r P
+any_err (Ok x) h = tt
+any_err (Err e) h = h e
+
+not_both : ◌≡◌ {A = Trouble} Unread Unsent → ⊥
+not_both e = true≢false (ap (λ (t : Trouble). is_read t) e)
+  where
+    is_read : Trouble → Bool
+    is_read Unread = true
+    is_read Unsent = false
 
 module _ {S : Type 0} (feeds : S → List ℕ → S → List ℕ → Type 0) where
   -- after turns that read a byte at least each
@@ -67,23 +77,25 @@ module _ {S : Type 0} (feeds : S → List ℕ → S → List ℕ → Type 0) whe
 
   -- ════ where a read or a write failed
   module _ {first last : S} {f g v w : Option (List ℕ)} {turns : ℕ} (t : Fed first last f g v w turns) where
-    pub unread : (h : Option (List ℕ)) → Keeps g h → BrokenOff feeds first f h v w
-    unread h kept = record {
+    pub unread : (why : Trouble) (h : Option (List ℕ)) → Keeps g h → BrokenOff feeds why first f h v w
+    unread why h kept = record {
       eaten = t.eaten;
       text = t.text;
       last = last;
       read = Consumes-kept f g h _ t.read kept;
       fed = t.fed;
       sent = (length t.text, omega arith, subst (Appends v w) (sym (take_all (length t.text) t.text (omega arith))) t.sent);
+      all_sent = λ e. t.sent;
     }
 
-    pub unsent : FeedLaws feeds → (next : S) (h x : Option (List ℕ)) (chunk text : List ℕ) → Consumes g h chunk → feeds last chunk next text
-        → AppendsFront w x text (length text) → BrokenOff feeds first f h v x
-    unsent laws next h x chunk text read fed part = record {
+    pub unsent : FeedLaws feeds → (why : Trouble) → why ≡ Unsent → (next : S) (h x : Option (List ℕ)) (chunk text : List ℕ) → Consumes g h chunk
+        → feeds last chunk next text → AppendsFront w x text (length text) → BrokenOff feeds why first f h v x
+    unsent laws why is next h x chunk text read fed part = record {
       eaten = t.eaten ++ chunk;
       text = t.text ++ text;
       last = next;
       read = Consumes-trans f g h _ _ t.read read;
       fed = laws.more first last next t.eaten chunk t.text text t.fed fed;
       sent = front_second v w x t.text text t.sent part;
+      all_sent = λ e. absurd (let z : ◌≡◌ {A = Trouble} Unread Unsent = cc in not_both z);
     }

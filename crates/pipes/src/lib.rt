@@ -1,11 +1,11 @@
 // Standard input and output, for programs that read, feed and write: what a read brought, and whether a write went through. What they read from and write to
 // is handed to them, so that a contract can name its bytes: where a reader or a writer says which it has, they are those that were read or sent. Standard
-// input, output and error say nothing of theirs.
+// input, output and error say nothing of theirs. One loop reads, feeds and sends for whatever may be fed.
 #![tactic(auto)]
 
-ghost use Rattle.std.specs.Prelude.{◌≡◌, ◌<◌, ◌≤◌, ◌*◌, ◌++◌, Ok, length, take, IfOk, OnOk, OnErr, IfErr};
+ghost use Rattle.std.specs.Prelude.{◌≡◌, ◌<◌, ◌≤◌, ◌*◌, Ok, length, take, IfOk, OnOk, IfErr};
 ghost use Rattle.std.specs.Io.KnownBytes.{Appends, Consumes, Keeps, IsAtEnd};
-ghost use Rattle.pipes.specs.Counts.{AppendsFront, AppendsLess, IsPrefixLen};
+ghost use Rattle.pipes.specs.Counts.{AppendsFront, AppendsFronts, AppendsLess, IsPrefixLen};
 ghost use Rattle.pipes.specs.Through.{Through, BrokenOff};
 ghost use Rattle.pipes.specs.Words.{words_of};
 
@@ -78,7 +78,8 @@ pub fn feed_through<R: Read, W: Write, F: Feed>(
     requires { F.can_feed first × (0 < length bytes.old) × (F.room * length bytes.old ≤ length out.old) }
     ensures through { IfOk result (λ last. Through F.feeds F.over first last
         (R.remaining from.old) (R.remaining from.new) (W.contents to.old) (W.contents to.new)) }
-    ensures broken_off { OnErr result (BrokenOff F.feeds first (R.remaining from.old) (R.remaining from.new) (W.contents to.old) (W.contents to.new)) }
+    ensures broken_off { IfErr result (λ why. BrokenOff F.feeds why first
+        (R.remaining from.old) (R.remaining from.new) (W.contents to.old) (W.contents to.new)) }
 {
     let mut s = first;
     for turns in 0..u64::MAX {
@@ -97,12 +98,17 @@ pub fn feed_through<R: Read, W: Write, F: Feed>(
     Ok(s)
 }
 
-// Words for whoever started the program, on standard error: the program's name and what is said behind it.
-#[tactic(auto, using(crate::proofs::Fronts::front_first))]
-pub fn tell<W: Write>(to: &mut W, program: &[u8], words: &[u8]) -> Result<(), Trouble>
-    ensures all { OnOk result (Appends (W.contents to.old) (W.contents to.new) (program.now ++ words.now)) }
-    ensures part { AppendsFront (W.contents to.old) (W.contents to.new) (program.now ++ words.now) (length (program.now ++ words.now)) }
+// Words for whoever started the program, on standard error. Where they cannot be written there is nobody left to tell.
+pub fn tell<W: Write>(to: &mut W, words: &[u8])
+    ensures { AppendsFront (W.contents to.old) (W.contents to.new) words.now (length words.now) }
 {
-    send(to, program)?;
-    send(to, words)
+    let _ = send(to, words);
+}
+
+// What failed, behind the program's name; the words are tried even where the name could not be written.
+pub fn tell_trouble<W: Write>(to: &mut W, program: &[u8], why: Trouble)
+    ensures { AppendsFronts (W.contents to.old) (W.contents to.new) program.now (words_of why) }
+{
+    tell(to, program);
+    tell(to, why.words());
 }

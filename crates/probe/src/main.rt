@@ -322,6 +322,6 @@ fn main(rt: HostRuntime) {
     // 264 places for each of them, as `fed` asks
     let mut out = [0u8; 67584];
     if let Err(why) = run_through(&mut rt.stdin(), &mut rt.stdout(), &mut bytes, &mut out) {
-        let _ = pipes::tell(&mut rt.stderr(), b"probe", why.words());
+        pipes::tell_trouble(&mut rt.stderr(), b"probe", why);
     }
 }

@@ -1,8 +1,8 @@
 // The program sheet: standard input is a sheet, or should be one; standard output is what is to be said of it, and the sheet itself where it is good.
 #![tactic(auto)]
 
-ghost use Rattle.std.specs.Prelude.{◌≡◌, ◌≤◌, length, IfOk, OnOk, IfSome};
-ghost use Rattle.std.specs.Io.KnownBytes.{Appends};
+ghost use Rattle.std.specs.Prelude.{◌≡◌, ◌≤◌, List, ℕ, length, IfOk, OnOk, OnErr, IfSome};
+ghost use Rattle.std.specs.Io.KnownBytes.{Appends, Consumes};
 ghost use Rattle.findings.specs.Findings.{answer_text};
 ghost use Rattle.read_sheet.specs.Gathering.{Gathering};
 
@@ -23,7 +23,8 @@ const ANSWER: usize = 602;
 // Read by read, until the input is over or there is enough: so many bytes of the text were read.
 fn read_through<R: Read>(from: &mut R, text: &mut [u8]) -> Result<usize, Trouble>
     requires { length text.old ≡ 4096 }
-    ensures { IfOk result (λ size. Gathering (R.remaining from.old) (R.remaining from.new) text.new size) }
+    ensures gathered { IfOk result (λ size. Gathering (R.remaining from.old) (R.remaining from.new) text.new size) }
+    ensures broken_off { OnErr result ((eaten : List ℕ) × Consumes (R.remaining from.old) (R.remaining from.new) eaten) }
 {
     let mut size = 0;
     while size <= ENOUGH {
@@ -59,6 +60,6 @@ fn main(rt: HostRuntime) {
     let mut text = [0u8; ROOM];
     let mut out = [0u8; ANSWER];
     if let Err(why) = answer_through(&mut rt.stdin(), &mut rt.stdout(), &mut text, &mut out) {
-        let _ = pipes::tell(&mut rt.stderr(), b"sheet", why.words());
+        pipes::tell_trouble(&mut rt.stderr(), b"sheet", why);
     }
 }

@@ -39,17 +39,17 @@ fn run_through<R: Read, W: Write>(
     Ok(s)
 }
 
-// What is said of a line that is no row, on standard error: seven bytes, any count, 14 bytes. Standard output has its number too, but the
+// What is said of a line that is no row, on standard error: 15 bytes, any count, 14 bytes. Standard output has its number too, but the
 // program hands back no status, and whoever started it has only these words to go by.
-fn tell_bad<W: Write>(to: &mut W, s: Stream, out: &mut [u8]) -> Result<(), Trouble>
-    requires { 41 ≤ length out.old }
+fn tell_bad<W: Write>(to: &mut W, s: Stream, out: &mut [u8])
+    requires { 49 ≤ length out.old }
 {
     let mut page = Page::new(out, 0);
-    page.put_text(b": line ");
+    page.put_text(b"run_rows: line ");
     page.put_count(feeding::next(s.tally.rows));
     page.put_text(b" is not a row\n");
     let place = page.place();
-    pipes::tell(to, b"run_rows", &out[..place])
+    pipes::tell(to, &out[..place]);
 }
 
 // Where a read or a write failed words on standard error say so, and no totals are written: nobody takes what stands for the whole. Where they too
@@ -62,9 +62,9 @@ fn main(rt: HostRuntime) {
     let mut bytes = [0u8; 4096];
     // 48 places for each of them, as the stream asks
     let mut out = [0u8; 196608];
-    let _ = match run_through(&mut rt.stdin(), &mut rt.stdout(), d, &mut bytes, &mut out) {
+    match run_through(&mut rt.stdin(), &mut rt.stdout(), d, &mut bytes, &mut out) {
         Ok(s) if s.begun => tell_bad(&mut rt.stderr(), s, &mut out),
-        Ok(_) => Ok(()),
-        Err(why) => pipes::tell(&mut rt.stderr(), b"run_rows", why.words()),
-    };
+        Ok(_) => {}
+        Err(why) => pipes::tell_trouble(&mut rt.stderr(), b"run_rows", why),
+    }
 }

@@ -16,7 +16,7 @@ fn show(rt: HostRuntime, numbers: &[i32])
     page.put_line(numbers);
     let place = page.place();
     if let Err(why) = pipes::send(&mut rt.stdout(), &out[..place]) {
-        let _ = pipes::tell(&mut rt.stderr(), b"test_entries", why.words());
+        pipes::tell_trouble(&mut rt.stderr(), b"test_entries", why);
     }
 }
 

@@ -1,8 +1,9 @@
 -- `pipes::feed_through` meets its contract.
 -- Assumes nothing.
-use Rattle.std.proofs.Common.{Ok, refl, sym, ap, rules, arith}
+use Rattle.pipes.specs.declared.Trouble.TheVariants.{Unsent}
+use Rattle.std.proofs.Common.{◌≡◌, Ok, Err, refl, sym, ap, rules, arith}
 use Rattle.pipes.proofs.Fronts.{page_sent, page_part}
-use Rattle.pipes.proofs.Turns.{no_turn, turn_more, over_ends, input_ends, turns_end, unread, unsent, on_err}
+use Rattle.pipes.proofs.Turns.{no_turn, turn_more, over_ends, input_ends, turns_end, unread, unsent, any_err}
 use Rattle.pipes.proofs.feed_through.Goals as goal
 
 pub loop-turns-init : goal.loop-turns-init
@@ -36,10 +37,11 @@ returns-clause-through g c = turns_end _ _ c.loop-turns.invariant.turns (omega a
 
 -- a read or a write failed
 pub returns-in_err-size-clause-broken_off : goal.returns-in_err-size-clause-broken_off
-returns-in_err-size-clause-broken_off g c = on_err _ (unread _ c.loop-turns.invariant.turns _ c.in_err-size.ensures.none.1)
+returns-in_err-size-clause-broken_off g c = any_err _ (λ why. unread _ c.loop-turns.invariant.turns why _ c.in_err-size.ensures.none.1)
 
 pub returns-in_err-send-clause-broken_off : goal.returns-in_err-send-clause-broken_off
 returns-in_err-send-clause-broken_off g c =
     let put = c.fed-s.ensures.put in
-    on_err _ (unsent _ c.loop-turns.invariant.turns g.F.Feed.laws _ _ _ _ _ c.in_ok-size.ensures.read put.1
+    let e : c.from_residual-in_err-send.result ≡ Err Unsent = search (rules, c.from_residual-in_err-send.ensures, c.in_err-send.ensures.less.0) in
+    rw e (unsent _ c.loop-turns.invariant.turns g.F.Feed.laws Unsent refl _ _ _ _ _ c.in_ok-size.ensures.read put.1
     (page_part _ _ _ _ _ _ _ put.2 c.new-page.ensures.place c.place-place.ensures (search (rules, put.2.same)) c.in_err-send.ensures.part))

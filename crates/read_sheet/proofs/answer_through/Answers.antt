@@ -10,5 +10,5 @@ pub returns : goal.returns
 returns g c =
     let put = c.put_answer.ensures.put in
     on_ok_weaker c.send.result
-    (λ sent. answered _ _ _ _ _ _ c.in_ok-size.ensures (page_sent _ _ _ _ _ _ _ put c.new-page.ensures.place c.place-place.ensures (search (rules, put.same)) sent))
+    (λ sent. answered _ _ _ _ _ _ c.in_ok-size.ensures.gathered (page_sent _ _ _ _ _ _ _ put c.new-page.ensures.place c.place-place.ensures (search (rules, put.same)) sent))
     c.send.ensures.all
