@@ -94,7 +94,7 @@ fn put_quoted(page: &mut Page, line: &[u8])
     page.put_byte(b'"');
 }
 
-// What is said of the end of a text's first line, which has n bytes.
+// What is said of the end of a text's first line, which has n bytes: more may stand behind it, so that no slice says where it ends.
 #[tactic(auto, using(crate::proofs::Laws::ends), unfolding(crate::specs::Phrases::and_more, crate::specs::Phrases::without_feed))]
 fn put_end(page: &mut Page, rest: &[u8], n: usize)
     requires { (n ≡ length (before 10 rest.now)) × Room page.old 20 }

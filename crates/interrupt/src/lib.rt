@@ -1,5 +1,5 @@
-// The interrupt side: the drive record lies where C has it and is changed in place. Each of the four calls on it hands the record to the
-// function of `drive` that takes it by value, stores the record that comes back, and answers with the rest. The calls move the record
+// The interrupt side: the drive record lies where C has it and is changed in place. A step, a target and a clear hand the record to the function of
+// `drive` that takes it by value, store the record that comes back, and answer with the rest; a start stores a fresh one. The calls move the record
 // whole and look at no word of it.
 #![tactic(auto)]
 

@@ -7,7 +7,8 @@ ghost use Rattle.names.specs.Names.{IsFieldOf};
 
 use settings::{LONGEST, SHORTEST, WORDS};
 
-// A line's field, and no field of a motor: a word's name with an equals sign, whether the word is a gain (a yes or no, as settings/specs/Words `Entry` has it), and its range.
+// A line's field, and no field of a motor: a word's name with an equals sign, whether the word is a gain (a yes or no, as settings/specs/Words `Entry`
+// has it), and its range.
 #[derive(Clone, Copy)]
 pub struct Field {
     pub key: &'static [u8],

@@ -23,7 +23,7 @@ use text::Line;
 use writing::Page;
 
 // What is kept from one byte to the next: how many calls came, the line at hand, its numbers, and whether a byte of it came; whether a line came
-// that is no call, after which nothing is looked at.
+// that is no call, after which nothing is looked at. Two flags, as a stream has them.
 #[derive(Clone, Copy)]
 pub struct Calls {
     pub before: u64,

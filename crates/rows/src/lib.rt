@@ -65,7 +65,7 @@ fn clipped_in(s: Stepped) -> usize
     usize::from((s.number == 0) & s.pulses.clipped)
 }
 
-// The first n rows.
+// The first n rows, by their places: row i is read at 3·i and written at 4·i, as rows/specs/Rows `row_stepped` and `written_of` have it.
 fn rows_run(d: Drive, samples: &[i32], out: &mut [i32], n: usize) -> Ran
     requires { (sound_of d ≡ true) × (3 * n ≤ length samples.now) × (4 * n ≤ length out.old) }
     ensures { (result ≡ ran_of d samples.now n) × (out.new ≡ written_of d samples.now n ++ drop (4 * n) out.old) }
@@ -114,6 +114,7 @@ fn rows_fit(samples: usize, out: usize) -> bool
 pub fn run(d: Drive, samples: &[i32], out: &mut [i32]) -> Ran
     ensures { (result ≡ run_of d samples.now out.old) × (out.new ≡ output_after d samples.now out.old) }
 {
+    // two names, so that a wrong test changes a fact of the proof and not a name
     let intact = drive_record::sound(d);
     let broken = !intact;
     if broken {

@@ -28,7 +28,7 @@ fn place(k: usize) -> usize
     if h <= 64 { h } else { 128 - h }
 }
 
-// With the sign of entry k. It is turned in 16 bits, so that the compiler keeps the numbers above in 16.
+// With the sign of entry k, turned in the 16 bits of the table.
 #[tactic(auto, unfolding(crate::specs::Sine::signed_at))]
 fn signed(k: usize, size: i16) -> i16
     requires { nat_abs size ≤ 4096 }

@@ -9,13 +9,6 @@ use field::Field;
 use rows::Ran;
 use writing::Page;
 
-// A run that is lent the first so many of the answers.
-fn run_into(d: Drive, samples: &[i32], answers: &mut [i32], lent: usize) -> Ran
-    requires { lent ≤ length answers.old }
-{
-    rows::run(d, samples, &mut answers[..lent])
-}
-
 fn tell(rt: HostRuntime, r: Ran, answers: &[i32; 8], out: &mut [u8])
     requires { 150 ≤ length out.old }
 {
@@ -30,11 +23,12 @@ fn tell(rt: HostRuntime, r: Ran, answers: &[i32; 8], out: &mut [u8])
     let _ = pipes::send(&mut rt.stdout(), &out[..place]);
 }
 
+// A run that is lent the first so many of the answers.
 fn ran(rt: HostRuntime, d: Drive, samples: &[i32], lent: usize, out: &mut [u8])
     requires { (lent ≤ 8) × (150 ≤ length out.old) }
 {
     let mut answers = [7i32; 8];
-    let r = run_into(d, samples, &mut answers, lent);
+    let r = rows::run(d, samples, &mut answers[..lent]);
     tell(rt, r, &answers, out);
 }
 

@@ -14,7 +14,7 @@ pub struct Word {
     pub value: u64,
 }
 
-// A line that is being read: the word at hand, how many numbers came before it, whether the line is refused.
+// A line that is being read: the word at hand, how many numbers came before it, whether the line is refused; flags and no Option, as above.
 #[derive(Clone, Copy, Default)]
 pub struct Line {
     pub word: Word,
