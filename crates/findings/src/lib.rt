@@ -11,7 +11,6 @@ ghost use Rattle.findings.specs.Findings.{
   kind_text,
   expected_text,
   shown_byte,
-  shown,
   quoted,
   end_text,
   found_text,

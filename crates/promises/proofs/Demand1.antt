@@ -101,6 +101,7 @@ pub drive_or_number : DriveOrNumber
 drive_or_number s = record {
   drive = λ e. rw (made_is s, e) refl;
   number = λ e. rw (made_is s, e) refl;
+  number_is = λ e. rw (made_is s, e) (refusal_number s e);
   values = λ e. rw (checked_is s, e) refl;
   no_values = λ e. rw (checked_is s, e) refl;
 }

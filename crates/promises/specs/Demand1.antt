@@ -48,11 +48,12 @@ abbrev pub RunTable : Type 0
 RunTable = (d : Drive) (samples out : List ℤ) →
     Exactly (λ (r : Run). r.0.number) (run_table d samples out (unrun d out)) (all_run d samples out) (run_of d samples out, output_after d samples out)
 
--- from settings either a drive or a number, never both: accepted, the fresh drive, and of the check their own words; else the number that
--- refuses them, and no words
+-- from settings either a drive or a number, never both: accepted, the fresh drive, and of the check their own words; else the reason of the number
+-- that refuses them, whose own number is that one, and no words
 pub record Either (s : Settings) : Type 0 where
   pub drive : accepted s ≡ true → made s ≡ Ok (fresh s)
   pub number : accepted s ≡ false → made s ≡ refuse (refusal s)
+  pub number_is : accepted s ≡ false → made_number (made s) ≡ refusal s
   pub values : accepted s ≡ true → values_of (checked s) ≡ words_of s
   pub no_values : accepted s ≡ false → values_of (checked s) ≡ []
 

@@ -1,7 +1,7 @@
 // The run: rows of samples, each one step. It takes any record, any samples and any output, and answers with a number of docs/RULES.md.
 #![tactic(auto)]
 
-ghost use Rattle.std.specs.Prelude.{◌≡◌, true, ◌++◌, ◌+◌, ◌*◌, ◌≤◌, length, take as take_of, drop};
+ghost use Rattle.std.specs.Prelude.{◌≡◌, true, ◌++◌, ◌+◌, ◌*◌, ◌≤◌, length, drop};
 ghost use Rattle.drive_record.specs.Record.{sound as sound_of};
 ghost use Rattle.fixed.specs.Refusal.{number_of};
 ghost use Rattle.rows.specs.Rows.{

@@ -95,7 +95,7 @@ pub fn tied(kp: i32, kcor: i32, ki: i32) -> bool
 {
     let asked = fixed::times(kp, kcor);
     let has = fixed::times(4096, ki);
-    (asked <= has) & (has <= asked)
+    asked == has
 }
 
 // The two sets are the same as above and what is asked of them is not: one function of both would take that as a parameter, and be no shorter.

@@ -9,7 +9,7 @@ use native.Mathlib.Omega.{arith}
 use borrow.Author.Tests.{leb-true, lt-ltb, le-ltb}
 use lib.Dec.{eqb, leb}
 use lib.ListN.{length, get_or, take, drop, length-take}
-use lib.Seq.{length-take-le, drop-cons, take-append_seam}
+use lib.Seq.{length-take-le}
 use Rattle.fixed.proofs.HeldLaws.{and_left, and_right}
 use Rattle.settings.specs.declared.Settings.{Settings}
 use Rattle.settings.specs.Settings.{accepted, refusal}

@@ -12,6 +12,7 @@ use lib.Seq.{drop_at}
 use Rattle.settings.specs.declared.Settings.{Settings}
 use Rattle.settings.specs.Settings.{accepted, refusal, period_ok}
 use Rattle.settings.specs.Words.{settings_of}
+use Rattle.settings.proofs.Ranges.{refusal_number}
 use Rattle.writing.specs.Decimal.{written}
 use Rattle.sheet.specs.declared.Unread.TheVariants.{Refused, Faulty}
 use Rattle.sheet.specs.Sheet.{sheet_text, read_sheet, sheet_in}
@@ -55,7 +56,7 @@ pub settled_early : is.SettledEarly
 settled_early = sheet_early
 
 pub barred_first : is.BarredFirst
-barred_first s out a = let b = barred s out a in (sym b.0, sym b.1)
+barred_first s out a = let b = barred s out a in (sym b.0, refusal_number s a, sym b.1)
 
 pub short_exactly : is.ShortExactly
 short_exactly = law.short_exactly

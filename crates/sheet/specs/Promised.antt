@@ -58,9 +58,10 @@ abbrev pub SettledEarly : Type 0
 SettledEarly = (bs : List ℕ) (n : ℕ) → 500 ≤ n → read_sheet (take n bs) ≡ read_sheet bs
 
 -- ════ what is written
--- refused settings come first, whatever the room is, and nothing is touched
+-- refused settings come first, whatever the room is, with the number that refuses them, and nothing is touched
 abbrev pub BarredFirst : Type 0
-BarredFirst = (s : Settings) (out : List ℕ) → accepted s ≡ false → (wrote s (length out) ≡ Err (Barred (reason (refusal s)))) × (sheet_in s out ≡ out)
+BarredFirst = (s : Settings) (out : List ℕ) → accepted s ≡ false →
+    (wrote s (length out) ≡ Err (Barred (reason (refusal s)))) × (reason_number (reason (refusal s)) ≡ refusal s) × (sheet_in s out ≡ out)
 
 -- 18 exactly when settings are accepted and the room is shorter than their sheet, and nothing is touched
 abbrev pub ShortExactly : Type 0

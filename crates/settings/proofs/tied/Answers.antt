@@ -1,18 +1,17 @@
 -- `settings::tied` meets its contract.
 -- Assumes nothing.
-use mathlib.Core.Path.{ap₂}
+use mathlib.Core.Path.{ap₂, ◌∙◌}
 use lib.IntN.{ℤ, pos}
 use mir.Syntax.{w64}
-use Rattle.fixed.specs.Fixed.{within}
-use Rattle.fixed.proofs.Reading.{word, lit, multiplied, stored}
+use Rattle.fixed.specs.Fixed.{equal}
+use Rattle.fixed.proofs.Reading.{word, lit, multiplied, fits}
 use Rattle.settings.specs.Settings.{tied as is_tied}
+use Rattle.settings.proofs.Ties.{same_words}
 use Rattle.settings.proofs.tied.Goals as goal
 
 pub returns : goal.returns
 unfolding is_tied
 returns c =
-    let k = c.before in
-    let s = k.before in
-    let asked = stored w64 (multiplied k.times-asked.ensures (word s.ranges.kp) (word s.ranges.kcor)) tt in
-    let has = stored w64 (multiplied c.times-has.ensures (lit (pos 4096)) (word s.ranges.ki)) tt in
-    ap₂ (λ (a b : ℤ). within a a b) asked.is has.is
+    let asked = multiplied c.times-asked.ensures (word c.ranges.kp) (word c.ranges.kcor) in
+    let has = multiplied c.times-has.ensures (lit (pos 4096)) (word c.ranges.ki) in
+    same_words w64 (fits asked tt) (fits has tt) ∙ ap₂ (λ (a b : ℤ). equal a b) asked.is has.is
