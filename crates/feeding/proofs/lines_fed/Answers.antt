@@ -9,7 +9,8 @@ use Rattle.feeding.proofs.lines_fed.Goals as goal
 use Rattle.feeding.proofs.lines_fed.Goals.{else-f-via-then-f+else-not-f, else-f-via-else-f}
 
 pub loop-rest-init : goal.loop-rest-init
-loop-rest-init g c = let t = g.T.Told in telling_start t.fits t.after t.answers t.can_tell t.most c.args.s c.args.chunk.now c.args.page.now c.requires.0 c.requires.1
+loop-rest-init g c = let t = g.T.Told in telling_start t.fits t.after t.answers t.can_tell t.most c.args.s c.args.chunk.now c.args.page.now
+    c.requires.0 c.requires.1
 
 pub told-requires : goal.told-requires
 told-requires g c =
@@ -19,7 +20,8 @@ told-requires g c =
       search rules,
       (
         u.can,
-        told_within t.fits t.after t.answers t.can_tell t.most u h c.if-not-now.true c.line_fed-f.ensures.chunk_value (c.line_fed-f.ensures.shorter.1 h) c.if-f.true cc,
+        told_within t.fits t.after t.answers t.can_tell t.most u h c.if-not-now.true c.line_fed-f.ensures.chunk_value (c.line_fed-f.ensures.shorter.1 h)
+            c.if-f.true cc,
         line_room t.fits t.after t.answers t.can_tell t.most u h,
       ),
     )
@@ -32,8 +34,10 @@ loop-rest-preserved-in-Some g c =
     let h : 0 < length c.loop-rest.rest.now = grind (arith, nat_tests) in
     let b : c.line_fed-f.result.line.bad ≡ false = cc in
     let put = c.in-Some.ensures.put in
-    telling_good t.fits t.after t.answers t.can_tell t.most c.loop-rest.invariant h c.if-not-now.true c.line_fed-f.ensures.chunk_value (c.line_fed-f.ensures.shorter.1 h)
-    (rw (c.if-f.true, b) (sym c.in-Some.ensures.good)) c.in-Some.ensures.next.0 c.in-Some.ensures.next.1 c.line_start-now.ensures put.1 put.3 c.told.ensures.bound
+    telling_good t.fits t.after t.answers t.can_tell t.most c.loop-rest.invariant h c.if-not-now.true
+    c.line_fed-f.ensures.chunk_value (c.line_fed-f.ensures.shorter.1 h)
+    (rw (c.if-f.true, b) (sym c.in-Some.ensures.good)) c.in-Some.ensures.next.0 c.in-Some.ensures.next.1 c.line_start-now.ensures
+    put.1 put.3 c.told.ensures.bound
 
 pub loop-rest-preserved-in_default : goal.loop-rest-preserved-in_default
 unfolding is_good
@@ -42,7 +46,8 @@ loop-rest-preserved-in_default g c =
     let h : 0 < length c.loop-rest.rest.now = grind (arith, nat_tests) in
     let b : c.line_fed-f.result.line.bad ≡ false = cc in
     let put = c.in_default.ensures.put in
-    telling_else t.fits t.after t.answers t.can_tell t.most c.loop-rest.invariant h c.if-not-now.true c.line_fed-f.ensures.chunk_value (c.line_fed-f.ensures.shorter.1 h)
+    telling_else t.fits t.after t.answers t.can_tell t.most c.loop-rest.invariant h c.if-not-now.true
+    c.line_fed-f.ensures.chunk_value (c.line_fed-f.ensures.shorter.1 h)
     (rw (c.if-f.true, b) (sym c.in_default.ensures.good)) (rw put.2 at put.3) c.told.ensures.bound
 
 pub loop-rest-preserved : goal.loop-rest-preserved
@@ -52,7 +57,10 @@ loop-rest-preserved g c =
     let u = c.loop-rest.invariant in
     let h : 0 < length c.loop-rest.rest.now = grind (arith, nat_tests) in
     telling_else t.fits t.after t.answers t.can_tell t.most u h c.if-not-now.true c.line_fed-f.ensures.chunk_value (c.line_fed-f.ensures.shorter.1 h)
-    (elim c.else-f.branch [ else-f-via-then-f+else-not-f w ↦ let b : c.line_fed-f.result.line.bad ≡ true = cc in rw (w.if-f.true, b) refl | else-f-via-else-f w ↦ rw w.if-f.false refl ])
+    (elim c.else-f.branch [
+      | else-f-via-then-f+else-not-f w ↦ let b : c.line_fed-f.result.line.bad ≡ true = cc in rw (w.if-f.true, b) refl
+      | else-f-via-else-f w ↦ rw w.if-f.false refl
+    ])
     (none c.loop-rest.page (omega (arith, u.wrote.room))) (omega arith)
 
 -- the two ends: stopped, or past the last byte
