@@ -3,3 +3,4 @@ pub mod Pieces
 pub mod Meaning
 pub mod Whole
 pub mod Upto
+pub mod Telling

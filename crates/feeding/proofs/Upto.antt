@@ -1,7 +1,7 @@
 -- A chunk is fed line by line: what stands once some of its bytes were fed, and what is written of them.
 -- Assumes nothing.
 use mathlib.Core.Path.{◌≡◌, refl, sym, ◌∙◌, ap}
-use mathlib.Core.Bool.{Bool, true, false, cond, not, ◌&&◌}
+use mathlib.Core.Bool.{Bool, true, false, cond, ◌&&◌, true≢false}
 use mathlib.Core.List.{List, [], ◌∷◌, ◌++◌, append_assoc, append-nil}
 use Prim.Native.Nat.{ℕ, ◌+◌, ◌*◌, ◌≤◌, ◌<◌}
 use native.Mathlib.Nat.{mul-suc, mul-le-mul_left}
@@ -16,30 +16,23 @@ use Rattle.writing.specs.declared.Page.{Page}
 use Rattle.writing.specs.Page.{Put, Room}
 use Rattle.fixed.proofs.Choice.{by_test}
 use Rattle.writing.proofs.PageLaws.{none, then}
-use Rattle.feeding.specs.Feeding.{Part, part_of, Fed, line_due, front, is_good, end_fed, end_text, byte_fed, byte_text, fed_of, text_fed}
+use Rattle.feeding.specs.Feeding.{Part, part_of, Fed, line_due, front, is_good, end_fed, end_text, byte_fed, fed_of, Said}
 use Rattle.feeding.proofs.Parts.{part_length, part_count}
-use Rattle.feeding.proofs.Pieces.{end_good, end_bad, text_good, text_bad, fed_stopped, text_stopped}
+use Rattle.feeding.proofs.Pieces.{end_good, end_bad, fed_stopped, said_end, said_on, said_stopped}
 
 -- ════ a part of a line
 -- what it leaves of what is kept, where the line goes on or is bad
 abbrev part_at : {T : Type 0} → T → Part → Fed T
 part_at t p = record { kept = t; reading = p.reading; begun = true; stopped = p.ended }
 
--- whoever tests the line and its numbers by q finds out what `is_good` says, once it has ended
-pub good_test : (fits : List ℤ → Bool) (r : Reading) (bs : List ℕ) {p : Part} {q : Bool}
-    → part_of r bs ≡ p → (p.reading.line.count ≤ length p.reading.numbers → fits (front p.reading) ≡ q) →
-    p.ended && is_good fits p.reading ≡ p.ended && (not p.reading.line.bad && q)
-unfolding is_good
-good_test fits r bs {p} {q} e f = by p.ended p.reading.line.bad refl refl
-  where
-    by : (a b : Bool) → p.ended ≡ a → p.reading.line.bad ≡ b → a && (not b && fits (front p.reading)) ≡ a && (not b && q)
-    by false b x y = refl
-    by true true x y = refl
-    by true false x y =
-        let c : p.reading.line.count ≤ length r.numbers = rw e at
-        (part_count r bs (ap (λ (z : Part). z.ended) e ∙ x) (ap (λ (z : Part). z.reading.line.bad) e ∙ y)) in
-        let l : length p.reading.numbers ≡ length r.numbers = rw e at (part_length r bs) in
-        f (omega (arith, c, l))
+-- of a line that was ended and is not bad, no more numbers are counted than there are
+pub count_within : (r : Reading) (bs : List ℕ) {p : Part} → part_of r bs ≡ p
+    → p.ended ≡ true → p.reading.line.bad ≡ false → p.reading.line.count ≤ length p.reading.numbers
+count_within r bs {p} e x y =
+    let c : p.reading.line.count ≤ length r.numbers = rw e at
+    (part_count r bs (ap (λ (z : Part). z.ended) e ∙ x) (ap (λ (z : Part). z.reading.line.bad) e ∙ y)) in
+    let l : length p.reading.numbers ≡ length r.numbers = rw e at (part_length r bs) in
+    omega (arith, c, l)
 
 module _ {T : Type 0} (fits : List ℤ → Bool) (after : T → List ℤ → T) where
   -- what it makes of what is kept
@@ -106,81 +99,87 @@ module _ {T : Type 0} (fits : List ℤ → Bool) (after : T → List ℤ → T) 
 far : (m i j : ℕ) → i < j → m * i + m ≤ m * j
 far m i j h = rw (← mul-suc m i) (mul-le-mul_left m h)
 
-module _ {T : Type 0} (fits : List ℤ → Bool) (after : T → List ℤ → T) (answer : T → List ℤ → List ℕ) where
-  part_text : T → Part → List ℕ
-  part_text t p = cond p.ended (end_text fits answer t p.reading) []
+module _ {T : Type 0} (fits : List ℤ → Bool) (after : T → List ℤ → T) (A : T → List ℤ → List ℕ → Type 0) where
+  -- what is written of a part, where y is the answer
+  part_text : List ℕ → T → Part → List ℕ
+  part_text y t p = cond p.ended (end_text fits (λ k l. y) t p.reading) []
 
-  part_text_lem : (s : Fed T) (b : ℕ) (bs : List ℕ) → s.stopped ≡ false →
-      text_fed fits after answer s (b ∷ bs)
-      ≡ part_text s.kept (part_of s.reading (b ∷ bs))
-      ++ text_fed fits after answer (part_fed fits after s.kept (part_of s.reading (b ∷ bs))) (part_of s.reading (b ∷ bs)).behind
-  unfolding text_fed part_of part_fed part_text byte_fed byte_text
-  part_text_lem s b [] h = by_test (eqb b 10) (λ e. rw (h, e) refl) (λ e. rw (h, e) refl)
-  part_text_lem s b (c ∷ cs) h =
+  abbrev PartSaid : Fed T → List ℕ → Type 0
+  PartSaid s bs =
+      let p = part_of s.reading bs in
+      (y z : List ℕ) → (p.ended && is_good fits p.reading ≡ true → A s.kept (front p.reading) y) → Said fits after A (part_fed fits after s.kept p) p.behind z →
+      Said fits after A s bs (part_text y s.kept p ++ z)
+
+  part_said : (s : Fed T) (b : ℕ) (bs : List ℕ) → s.stopped ≡ false → PartSaid s (b ∷ bs)
+  unfolding part_of part_fed part_text
+  part_said s b [] h =
+      by_test (eqb b 10) (λ e. rw e (λ y z a k. said_end fits after A s b [] y z h e a k)) (λ e. rw e (λ y z a k. said_on fits after A s b [] z h e k))
+  part_said s b (c ∷ cs) h =
       by_test (eqb b 10)
-      (λ e. rw (h, e) refl)
-      (λ e. rw (h, e) (part_text_lem (record { kept = s.kept; reading = read_next s.reading b; begun = true; stopped = false }) c cs refl))
+      (λ e. rw e (λ y z a k. said_end fits after A s b (c ∷ cs) y z h e a k))
+      (λ e. rw e (λ y z a k. said_on fits after A s b (c ∷ cs) _ h e
+      (part_said (record { kept = s.kept; reading = read_next s.reading b; begun = true; stopped = false }) c cs refl y z a k)))
 
-  text_ahead : (cur : Fed T) (rest : List ℕ) → 0 < length rest → cur.stopped ≡ false →
-      text_fed fits after answer cur rest
-      ≡ part_text cur.kept (part_of cur.reading rest)
-      ++ text_fed fits after answer (part_fed fits after cur.kept (part_of cur.reading rest)) (part_of cur.reading rest).behind
-  text_ahead cur [] h g = absurd (omega (arith, h))
-  text_ahead cur (b ∷ bs) h g = part_text_lem cur b bs g
+  said_ahead : (cur : Fed T) (rest : List ℕ) → 0 < length rest → cur.stopped ≡ false → PartSaid cur rest
+  said_ahead cur [] h g = absurd (omega (arith, h))
+  said_ahead cur (b ∷ bs) h g = part_said cur b bs g
 
-  good_text : (t : T) (p : Part) → p.ended && is_good fits p.reading ≡ true → part_text t p ≡ answer t (front p.reading)
-  unfolding part_text
-  good_text t p g = rw (and_left p.ended _ g) (text_good fits after answer t p.reading (and_right p.ended _ g))
+  good_text : (y : List ℕ) (t : T) (p : Part) → p.ended && is_good fits p.reading ≡ true → part_text y t p ≡ y
+  unfolding part_text end_text
+  good_text y t p g = rw (and_left p.ended _ g, and_right p.ended _ g) refl
 
-  else-text : (t : T) (p : Part) → p.ended && is_good fits p.reading ≡ false → part_text t p ≡ []
-  unfolding part_text
-  else-text t p g = by_test p.ended (λ e. rw (e, text_bad fits after answer t p.reading (rw e at g)) refl) (λ e. rw e refl)
+  else_text : (t : T) (p : Part) → part_text [] t p ≡ []
+  unfolding part_text end_text
+  else_text t p = by_test p.ended (λ e. by_test (is_good fits p.reading) (λ d. rw (e, d) refl) (λ d. rw (e, d) refl)) (λ e. rw e refl)
 
   -- some bytes of a chunk put a text on the page first, m bytes for a byte at most, and rest is left, which puts the rest of it
   pub record Wrote (m : ℕ) (s : Fed T) (chunk : List ℕ) (first page : Page) (cur : Fed T) (rest : List ℕ) : Type 0 where
     pub room : Room page (m * length rest)
     pub near : page.at + m * length rest ≤ first.at + m * length chunk
     pub text : List ℕ
-    pub all_text : text_fed fits after answer s chunk ≡ text ++ text_fed fits after answer cur rest
+    pub all_text : (z : List ℕ) → Said fits after A cur rest z → Said fits after A s chunk (text ++ z)
     pub stands : Put first page text
 
   pub wrote_start : {m : ℕ} (s : Fed T) (chunk : List ℕ) (page : Page) → Room page (m * length chunk) → Wrote m s chunk page page s chunk
-  wrote_start s chunk page r = record { room = r; near = omega arith; text = []; all_text = refl; stands = none page (omega arith) }
+  wrote_start s chunk page r = record { room = r; near = omega arith; text = []; all_text = λ z k. k; stands = none page (omega arith) }
 
   module _ {m : ℕ} {s : Fed T} {chunk : List ℕ} {first page : Page} {cur : Fed T} {rest : List ℕ} {p : Part}
       (w : Wrote m s chunk first page cur rest) (h : 0 < length rest) (g : cur.stopped ≡ false)
       (e : part_of cur.reading rest ≡ p) (k : length p.behind < length rest) where
-    wrote_part : {n : Fed T} {x : List ℕ} {next : Page} → part_fed fits after cur.kept p ≡ n → part_text cur.kept p ≡ x →
-        Put page next x → next.at ≤ page.at + m → Wrote m s chunk first next n p.behind
-    wrote_part {n} {x} {next} f t y q =
-        let a = far m (length p.behind) (length rest) k in
+    wrote_part : {n : Fed T} {x : List ℕ} {next : Page} → part_fed fits after cur.kept p ≡ n → part_text x cur.kept p ≡ x →
+        (p.ended && is_good fits p.reading ≡ true → A cur.kept (front p.reading) x) → Put page next x → next.at ≤ page.at + m →
+        Wrote m s chunk first next n p.behind
+    wrote_part {n} {x} {next} f t a y q =
+        let l = far m (length p.behind) (length rest) k in
+        let ahead = said_ahead cur rest h g in
         record {
-          room = omega (arith, w.room, y.long, q, a);
-          near = omega (arith, w.near, q, a);
+          room = omega (arith, w.room, y.long, q, l);
+          near = omega (arith, w.near, q, l);
           text = w.text ++ x;
-          all_text =
-              w.all_text
-              ∙ ap (λ (z : List ℕ). w.text ++ z) (text_ahead cur rest h g ∙ rw (e, f, t) refl)
-              ∙ sym (append_assoc w.text x (text_fed fits after answer n p.behind));
+          all_text = λ z d. rw (append_assoc w.text x z) (w.all_text (x ++ z) (rw t at ((rw e at ahead) x z a (rw f d))));
           stands = then w.stands y;
         }
 
-    pub wrote_good : {next : Page} → p.ended && is_good fits p.reading ≡ true
-        → Put page next (answer cur.kept (front p.reading)) → next.at ≤ page.at + m →
+    pub wrote_good : {x : List ℕ} {next : Page} → p.ended && is_good fits p.reading ≡ true
+        → A cur.kept (front p.reading) x → Put page next x → next.at ≤ page.at + m →
         Wrote m s chunk first next (line_due (after cur.kept (front p.reading)) p.reading.numbers) p.behind
-    wrote_good f = wrote_part (part_good fits after cur.kept p f) (good_text cur.kept p f)
+    wrote_good {x} f a = wrote_part (part_good fits after cur.kept p f) (good_text x cur.kept p f) (λ d. a)
 
-    pub wrote_else : p.ended && is_good fits p.reading ≡ false → Wrote m s chunk first page (part_at cur.kept p) p.behind
-    wrote_else f = wrote_part (part_else fits after cur.kept p f) (else-text cur.kept p f) (none page (omega (arith, w.room))) (omega arith)
+    pub wrote_else : {next : Page} → p.ended && is_good fits p.reading ≡ false → Put page next [] → next.at ≤ page.at + m
+        → Wrote m s chunk first next (part_at cur.kept p) p.behind
+    wrote_else f = wrote_part (part_else fits after cur.kept p f) (else_text cur.kept p) (λ d. absurd (true≢false (sym d ∙ f)))
 
   -- the end: nothing is left to write
   module _ {m : ℕ} {s : Fed T} {chunk : List ℕ} {first page : Page} {cur : Fed T} {rest : List ℕ} (w : Wrote m s chunk first page cur rest) where
-    wrote_all : text_fed fits after answer cur rest ≡ [] → Put first page (text_fed fits after answer s chunk) × (page.at ≤ first.at + m * length chunk)
-    wrote_all e = (rw (w.all_text, e, append-nil w.text) w.stands, omega (arith, w.near))
+    abbrev pub AllWrote : Type 0
+    AllWrote = ((text : List ℕ) × Said fits after A s chunk text × Put first page text) × (page.at ≤ first.at + m * length chunk)
 
-    pub wrote_past : length rest ≡ 0 → Put first page (text_fed fits after answer s chunk) × (page.at ≤ first.at + m * length chunk)
-    unfolding text_fed
+    wrote_all : Said fits after A cur rest [] → AllWrote
+    wrote_all e = ((w.text, rw (append-nil w.text) at (w.all_text [] e), w.stands), omega (arith, w.near))
+
+    pub wrote_past : length rest ≡ 0 → AllWrote
+    unfolding Said
     wrote_past q = wrote_all (rw (nil_from_length rest q) refl)
 
-    pub wrote_stopped : cur.stopped ≡ true → Put first page (text_fed fits after answer s chunk) × (page.at ≤ first.at + m * length chunk)
-    wrote_stopped q = wrote_all (text_stopped fits after answer cur rest q)
+    pub wrote_stopped : cur.stopped ≡ true → AllWrote
+    wrote_stopped q = wrote_all (said_stopped fits after A cur rest q)

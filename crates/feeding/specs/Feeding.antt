@@ -1,5 +1,5 @@
 -- The same byte by byte: what stands between two bytes, and what a byte makes of it. That it comes to what `Lines` says is proved in `Whole`.
-use Rattle.std.specs.Prelude.{ℕ, Bool, true, false, cond, not, ◌&&◌, List, [], ◌∷◌, ◌++◌, eqb, ℤ, take}
+use Rattle.std.specs.Prelude.{◌≡◌, ℕ, Bool, true, false, cond, not, ◌&&◌, List, [], ◌∷◌, ◌++◌, eqb, ℤ, take}
 use Rattle.text.specs.Automaton.{line_start, Reading, read_next, read_end}
 
 -- ════ the bytes of one line
@@ -60,6 +60,17 @@ fed_of fits after s (b ∷ bs) = fed_of fits after (byte_fed fits after s b) bs
 unfoldable pub text_fed : {T : Type 0} → (List ℤ → Bool) → (T → List ℤ → T) → (T → List ℤ → List ℕ) → Fed T → List ℕ → List ℕ
 text_fed fits after answer s [] = []
 text_fed fits after answer s (b ∷ bs) = byte_text fits answer s b ++ text_fed fits after answer (byte_fed fits after s b) bs
+
+-- whether a byte ends a good line
+abbrev pub ends_good : {T : Type 0} → (List ℤ → Bool) → Fed T → ℕ → Bool
+ends_good fits s b = not s.stopped && (eqb b 10 && is_good fits (read_end s.reading))
+
+-- x may be written of many bytes, where an answer is one of those that A says
+unfoldable pub Said : {T : Type 0} → (List ℤ → Bool) → (T → List ℤ → T) → (T → List ℤ → List ℕ → Type 0) → Fed T → List ℕ → List ℕ → Type 0
+Said fits after A s [] x = x ≡ []
+Said fits after A s (b ∷ bs) x =
+    (y : List ℕ) × (z : List ℕ) × (ends_good fits s b ≡ true → A s.kept (front (read_end s.reading)) y)
+    × Said fits after A (byte_fed fits after s b) bs z × (x ≡ byte_text fits (λ t l. y) s b ++ z)
 
 -- chunks one behind the other
 unfoldable pub joined : {A : Type 0} → List (List A) → List A

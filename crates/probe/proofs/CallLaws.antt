@@ -1,11 +1,11 @@
 -- Which lines are calls: numbers past a line's own play no part, and a call has room among `most`. So what stands after any bytes is what the grammar
 -- says of their lines (`calls`).
 -- Assumes nothing.
-use mathlib.Core.Path.{◌≡◌, refl, sym, ◌∙◌, ap, subst}
-use mathlib.Core.Bool.{Bool, true, false, not, ◌&&◌, ◌||◌, true≢false}
-use mathlib.Core.List.{List, [], ◌++◌}
+use mathlib.Core.Path.{◌≡◌, refl, sym, ◌∙◌, ap}
+use mathlib.Core.Bool.{Bool, false, ◌&&◌, ◌||◌, true≢false}
+use mathlib.Core.List.{List, []}
 use mathlib.Core.Logic.{⊎_elim}
-use Prim.Native.Nat.{ℕ, ◌+◌, ◌*◌, ◌≤◌, ◌<◌}
+use Prim.Native.Nat.{ℕ, ◌+◌, ◌≤◌}
 use native.Mathlib.Omega.{arith}
 use borrow.Author.Tests.{eqb-true, ne_eqb}
 use lib.Dec.{eqb}
@@ -15,20 +15,13 @@ use Rattle.fixed.proofs.Same.{same_word}
 use lib.IntN.{ℤ, pos}
 use lib.ListN.{length, get_or, take, replicate}
 use lib.Seq.{get_or-take, length-take-le}
-use Rattle.text.specs.declared.Line.{Line}
-use Rattle.text.specs.Automaton.{line_start}
 use Rattle.fixed.proofs.Choice.{true_or_false, less_or_not}
-use Rattle.feeding.specs.Lines.{good_lines, ends_bad, after_all, one_more}
-use Rattle.feeding.specs.Feeding.{Part, part_of, Fed, line_due, is_good, fed_of}
+use Rattle.feeding.specs.Lines.{good_lines, ends_bad, after_all}
+use Rattle.feeding.specs.Feeding.{line_due, fed_of}
 use Rattle.feeding.proofs.Meaning.{Room as Fits}
 use Rattle.feeding.proofs.Whole.{comes}
-use Rattle.feeding.proofs.Parts.{part_length}
-use Rattle.feeding.proofs.Upto.{good_test, Upto, upto_start, upto_good, upto_else}
-use Rattle.writing.specs.declared.Page.{Page}
-use Rattle.writing.specs.Page.{Put, Room}
-use Rattle.writing.proofs.PageLaws.{none, then}
 use Rattle.probe.specs.declared.Calls.{Calls}
-use Rattle.probe.specs.Calls.{record_at, own_at, most, flags, call, call_by, is_call, calls_after, as_fed}
+use Rattle.probe.specs.Calls.{record_at, own_at, most, flags, call, call_by, is_call, calls_start, calls_after}
 
 room : Fits is_call most
 unfolding is_call call_by
@@ -56,74 +49,11 @@ front_call ns n l =
     let made = asked ns n record_at (λ (x : List ℤ). call x (pos 0)) (rw (get_or-take record_at ns 0 (pos 0) (omega arith)) refl) in
     rw (length-take-le n ns l, made, of (pos 1) most (omega arith), of (pos 2) (own_at + 1) (omega arith), of (pos 3) own_at (omega arith)) refl
 
--- ════ what stands while rest is left of the chunk
-pub record Taking (s : Calls) (chunk : List ℕ) (first page : Page) (cur : Calls) (rest : List ℕ) : Type 0 where
-  pub wide : length cur.numbers ≡ most
-  pub upto : Upto is_call calls_after (as_fed s) chunk (as_fed cur) rest
-  pub room : Room page (264 * length rest)
-  pub near : page.at + 264 * length rest ≤ first.at + 264 * length chunk
-  pub text : List ℕ
-  pub put : Put first page text
-
-pub taking_start : (s : Calls) (chunk : List ℕ) (page : Page) → length s.numbers ≡ most → Room page (264 * length chunk) → Taking s chunk page page s chunk
-taking_start s chunk page w r = record {
-  wide = w;
-  upto = upto_start is_call calls_after (as_fed s) chunk;
-  room = r;
-  near = omega arith;
-  text = [];
-  put = none page (omega (arith, r));
-}
-
--- there is room for one answer
-pub answer_room : {s : Calls} {chunk : List ℕ} {first page : Page} {cur : Calls} {rest : List ℕ}
-    → Taking s chunk first page cur rest → 0 < length rest → Room page 264
-answer_room u h = omega (arith, u.room, h)
-
--- a part of the rest went to the line, which is l with the numbers ns after it
-module _ {s : Calls} {chunk : List ℕ} {first page : Page} {cur : Calls} {rest behind : List ℕ} {l : Line} {ns : List ℤ} {ended : Bool}
-    (u : Taking s chunk first page cur rest) (h : 0 < length rest) (g : cur.stopped ≡ false)
-    (e : part_of (as_fed cur).reading rest ≡ record { reading = record { line = l; numbers = ns }; ended = ended; behind = behind })
-    (k : length behind < length rest) where
-  part_wide : length ns ≡ most
-  part_wide = ap (λ (p : Part). length p.reading.numbers) (sym e) ∙ part_length (as_fed cur).reading rest ∙ u.wide
-
-  is_good_lem : ended && is_good is_call (record { line = l; numbers = ns }) ≡ ended && (not l.bad && call_by ns l.count)
-  is_good_lem = good_test is_call (as_fed cur).reading rest e (front_call ns l.count)
-
-  -- it ends a call, which is answered
-  pub call_taken : {n : ℕ} {start : Line} {next : Page} {text : List ℕ}
-      → ended && (not l.bad && call_by ns l.count) ≡ true → n ≡ one_more cur.before → start ≡ line_start → Put page next text → next.at ≤ page.at + 264 →
-      Taking s chunk first next (record { before = n; line = start; numbers = ns; begun = false; stopped = cur.stopped }) behind
-  unfolding calls_after
-  call_taken {n} {start} {next} {text} y en es put near = record {
-    wide = part_wide;
-    upto =
-        subst (λ (x : Fed ℕ). Upto is_call calls_after (as_fed s) chunk x behind) (rw (en, es, g) refl)
-        (upto_good is_call calls_after u.upto h g e (is_good_lem ∙ y));
-    room = omega (arith, u.room, put.long, near, k);
-    near = omega (arith, u.near, near, k);
-    text = u.text ++ text;
-    put = then u.put put;
-  }
-
-  -- it ends none, or the line goes on
-  pub none_taken : ended && (not l.bad && call_by ns l.count) ≡ false →
-      Taking s chunk first page (record { before = cur.before; line = l; numbers = ns; begun = true; stopped = ended }) behind
-  none_taken y = record {
-    wide = part_wide;
-    upto = upto_else is_call calls_after u.upto h g e (is_good_lem ∙ y);
-    room = omega (arith, u.room, k);
-    near = omega (arith, u.near, k);
-    text = u.text;
-    put = u.put;
-  }
-
 -- ════ by the grammar: how many calls there are before a bad line, and whether one ends them
 pub calls : (input : List ℕ) →
-    ((fed_of is_call calls_after (line_due 0 (replicate most (pos 0))) input).kept ≡ after_all calls_after 0 (good_lines is_call input))
-    × ((fed_of is_call calls_after (line_due 0 (replicate most (pos 0))) input).begun ≡ ends_bad is_call input)
-calls input = let c = comes is_call calls_after (λ (n : ℕ) (ns : List ℤ). []) 0 (replicate most (pos 0)) input room in (c.keeps, c.ends)
+    ((fed_of is_call calls_after (line_due calls_start (replicate most (pos 0))) input).kept ≡ after_all calls_after calls_start (good_lines is_call input))
+    × ((fed_of is_call calls_after (line_due calls_start (replicate most (pos 0))) input).begun ≡ ends_bad is_call input)
+calls input = let c = comes is_call calls_after (λ (c : Calls) (ns : List ℤ). []) calls_start (replicate most (pos 0)) input room in (c.keeps, c.ends)
 
 -- ════ the first number says which call it is: w are its bits, n is how many numbers there are, and f whether the flags are
 abbrev pub call_bits : ℕ → ℕ → Bool → Bool

@@ -3,7 +3,6 @@ use Rattle.std.specs.Prelude.{ℕ, ◌+◌, Bool, ◌&&◌, ◌||◌, List, eqb,
 use Rattle.fixed.specs.Fixed.{within, equal}
 use Rattle.settings.specs.Words.{size}
 use Rattle.feeding.specs.Lines.{one_more}
-use Rattle.feeding.specs.Feeding.{Fed}
 use Rattle.probe.specs.declared.Calls.{Calls}
 
 -- the call, the settings, the 15 words of the record, the call's own numbers: where the record and where the own begin, and the most there are
@@ -36,8 +35,8 @@ unfoldable pub is_call : List ℤ → Bool
 is_call ns = call_by ns (length ns)
 
 -- what is kept of the lines is how many there were
-unfoldable pub calls_after : ℕ → List ℤ → ℕ
-calls_after n ns = one_more n
+abbrev pub calls_start : Calls
+calls_start = record { before = 0 }
 
-abbrev pub as_fed : Calls → Fed ℕ
-as_fed s = record { kept = s.before; reading = record { line = s.line; numbers = s.numbers }; begun = s.begun; stopped = s.stopped }
+unfoldable pub calls_after : Calls → List ℤ → Calls
+calls_after c ns = record { before = one_more c.before }

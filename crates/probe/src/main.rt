@@ -6,32 +6,29 @@ ghost use Rattle.std.specs.Prelude.{◌≡◌, ⊤, ◌*◌, ◌+◌, ◌<◌, �
 ghost use Rattle.writing.specs.Decimal.{bad_text};
 ghost use Rattle.writing.specs.Page.{Put, Room};
 ghost use Rattle.feeding.specs.Lines.{one_more, good_lines, ends_bad, after_all};
-ghost use Rattle.feeding.specs.Feeding.{line_due, fed_of};
-ghost use Rattle.probe.specs.Calls.{most, record_at, is_flag, flags, call_by, is_call, calls_after, as_fed};
-ghost use Rattle.probe.specs.Feeds.{FedCalls, calls_laws};
+ghost use Rattle.feeding.specs.Feeding.{line_due};
+ghost use Rattle.feeding.specs.Feeds.{as_fed};
+ghost use Rattle.probe.specs.Calls.{most, record_at, is_flag, flags, call_by, is_call, calls_start, calls_after};
 
 use drive::Answered;
 use drive_record::{Command, Drive, Integrals};
-use feeding::Feed;
+use feeding::{Feeder, Told};
 use field::Field;
 use pipes::Trouble;
 use settings::Settings;
 use shaft::Shaft;
 use stages::Stepped;
 use std::io::{Read, Write};
-use text::Line;
 use writing::Page;
 
-// What is kept from one byte to the next: how many calls came, the line at hand, its numbers, and whether a byte of it came; whether a line came
-// that is no call, after which nothing is looked at. Two flags, as a stream has them.
+// What goes from one call to the next: how many came.
 #[derive(Clone, Copy)]
 pub struct Calls {
     pub before: u64,
-    pub line: Line,
-    pub numbers: [i32; ALL],
-    pub begun: bool,
-    pub stopped: bool,
 }
+
+// Where the program stands between two bytes.
+type Fed = Feeder<Calls, ALL>;
 
 // What a line asks of the drive.
 #[derive(Clone, Copy)]
@@ -222,11 +219,32 @@ fn put_answer(page: &mut Page, call: Call)
     }
 }
 
-fn start() -> Calls
-    ensures { as_fed result ≡ line_due 0 (replicate most (pos 0)) }
+// A line is a call where its numbers are one; it is answered by 264 bytes at most, of which nothing is said.
+impl Told<ALL> for Calls {
+    ghost most = { 264 };
+
+    ghost can_tell = { λ c. ⊤ };
+
+    ghost fits = { is_call };
+
+    ghost after = { calls_after };
+
+    ghost answers = { λ c ns text. ⊤ };
+
+    fn told(self, page: &mut Page, numbers: &[i32; ALL], count: usize) -> Option<Calls> {
+        let call = call_in(numbers, count)?;
+        put_answer(page, call);
+        Some(Calls {
+            before: feeding::next(self.before),
+        })
+    }
+}
+
+fn start() -> Fed
+    ensures { as_fed result ≡ line_due calls_start (replicate most (pos 0)) }
 {
-    Calls {
-        before: 0,
+    Feeder {
+        kept: Calls { before: 0 },
         line: text::line_start(),
         numbers: [0; ALL],
         begun: false,
@@ -234,64 +252,14 @@ fn start() -> Calls
     }
 }
 
-// The bytes of a chunk, whether lines stand whole in it or not. A call is answered by 264 bytes at most. The loop is `stream::fed`'s, over another kind
-// of line: one for both would move the fields of `Stream` that stream/specs/Streaming `as_fed` names, and what is said there stays.
-fn fed(page: &mut Page, s: Calls, chunk: &[u8]) -> Calls
-    requires { Room page.old (264 * length chunk.now) }
-    ensures value { as_fed result ≡ fed_of is_call calls_after (as_fed s) chunk.now }
-    ensures put { (text : List ℕ) × Put page.old page.new text }
-    ensures bound { page.new.at ≤ page.old.at + 264 * length chunk.now }
-{
-    let mut now = s;
-    let mut rest = chunk;
-    while !rest.is_empty() && !now.stopped {
-        let f = feeding::line_fed(now.line, rest, &mut now.numbers);
-        rest = f.rest;
-        if f.ended
-            && !f.line.bad
-            && let Some(call) = call_in(&now.numbers, f.line.count)
-        {
-            put_answer(page, call);
-            now.before = feeding::next(now.before);
-            now.line = text::line_start();
-            now.begun = false;
-        } else {
-            now.line = f.line;
-            now.begun = true;
-            now.stopped = f.ended;
-        }
-    }
-    now
-}
-
-impl Feed for Calls {
-    ghost room = { 264 };
-
-    ghost can_feed = { λ s. ⊤ };
-
-    ghost feeds = { FedCalls };
-
-    ghost over = { λ s. s.stopped };
-
-    ghost laws = { calls_laws };
-
-    fn fed(self, page: &mut Page, chunk: &[u8]) -> Calls {
-        fed(page, self, chunk)
-    }
-
-    fn is_over(&self) -> bool {
-        self.stopped
-    }
-}
-
 // What is written last: that a line is bad, where one is no call or has no line feed.
-fn ended(page: &mut Page, s: Calls)
+fn ended(page: &mut Page, s: Fed)
     requires { Room page.old 25 }
-    ensures put { Put page.old page.new (cond s.begun (bad_text (one_more s.before)) []) }
+    ensures put { Put page.old page.new (cond s.begun (bad_text (one_more s.kept.before)) []) }
     ensures bound { page.new.at ≤ page.old.at + 25 }
 {
     if s.begun {
-        page.put_bad(feeding::next(s.before));
+        page.put_bad(feeding::next(s.kept.before));
     }
 }
 
@@ -303,10 +271,10 @@ fn run_through<R: Read, W: Write>(
     to: &mut W,
     bytes: &mut [u8],
     out: &mut [u8],
-) -> Result<Calls, Trouble>
+) -> Result<Fed, Trouble>
     requires { (0 < length bytes.old) × (264 * length bytes.old ≤ length out.old) }
     ensures { IfOk result (λ last. IfSome (R.remaining from.old) (λ input. length input < 18446744073709551615
-        → (last.before ≡ after_all calls_after 0 (good_lines is_call input)) × (last.begun ≡ ends_bad is_call input))) }
+        → (last.kept ≡ after_all calls_after calls_start (good_lines is_call input)) × (last.begun ≡ ends_bad is_call input))) }
 {
     let s = pipes::feed_through(from, to, start(), bytes, out)?;
     let mut closing = Page::new(out, 0);

@@ -46,7 +46,7 @@ fn tell_bad<W: Write>(to: &mut W, s: Stream, out: &mut [u8])
 {
     let mut page = Page::new(out, 0);
     page.put_text(b"run_rows: line ");
-    page.put_count(feeding::next(s.tally.rows));
+    page.put_count(feeding::next(s.kept.rows));
     page.put_text(b" is not a row\n");
     let place = page.place();
     pipes::tell(to, &out[..place]);

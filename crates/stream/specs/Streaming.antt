@@ -3,12 +3,7 @@ use Rattle.std.specs.Prelude.{ℕ, List, [], ◌∷◌, ◌++◌, pos}
 use Rattle.drive_record.specs.declared.Drive.{Drive}
 use Rattle.feeding.specs.Feeding.{Fed, line_due, fed_of, text_fed}
 use Rattle.stream.specs.declared.Tally.{Tally}
-use Rattle.stream.specs.declared.Stream.{Stream}
 use Rattle.stream.specs.Program.{is_row, tally_start, tally_of, answer_text, closing_text}
-
--- a stream: the rows so far, and the line at hand
-abbrev pub as_fed : Stream → Fed Tally
-as_fed s = record { kept = s.tally; reading = record { line = s.line; numbers = s.row }; begun = s.begun; stopped = s.stopped }
 
 -- nothing is read yet
 abbrev pub stream_start : Drive → Fed Tally

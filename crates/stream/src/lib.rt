@@ -1,17 +1,16 @@
 // The program without its reads and writes: bytes go in as they come, in chunks of any size, and what they are answered comes out.
 #![tactic(auto)]
 
-ghost use Rattle.std.specs.Prelude.{◌≡◌, true, cond, not, ◌&&◌, ◌+◌, ◌*◌, ◌≤◌, eqb, length};
+ghost use Rattle.std.specs.Prelude.{◌≡◌, true, cond, ◌+◌, ◌*◌, ◌≤◌, length};
 ghost use Rattle.writing.specs.Page.{Put, Room};
 ghost use Rattle.drive_record.specs.Record.{sound as sound_of};
 ghost use Rattle.feeding.specs.Lines.{one_more};
-ghost use Rattle.stream.specs.Program.{header_text, tally_of, answer_text, totals_text};
-ghost use Rattle.stream.specs.Feeds.{FedRows, rows_laws};
-ghost use Rattle.stream.specs.Streaming.{as_fed, stream_start, rows_fed, rows_text, last_text};
+ghost use Rattle.feeding.specs.Feeds.{as_fed};
+ghost use Rattle.stream.specs.Program.{is_row, header_text, tally_of, answer_text, totals_text};
+ghost use Rattle.stream.specs.Streaming.{stream_start, rows_fed, rows_text, last_text};
 
 use drive_record::Drive;
-use feeding::Feed;
-use text::Line;
+use feeding::{Feeder, Told};
 use writing::Page;
 
 // What goes from one row to the next: the drive, how many rows came, the accepted steps and the clipped ones among them.
@@ -23,16 +22,8 @@ pub struct Tally {
     pub clipped: u64,
 }
 
-// Where the program stands between two bytes: the rows so far; the line at hand, its numbers, and whether a byte of it came; whether
-// a line came that is no row, after which nothing is looked at. Two flags, as feeding/specs/Feeding `Fed` has them, over which its theorems are said.
-#[derive(Clone, Copy)]
-pub struct Stream {
-    pub tally: Tally,
-    pub line: Line,
-    pub row: [i32; 3],
-    pub begun: bool,
-    pub stopped: bool,
-}
+// Where the program stands between two bytes.
+pub type Stream = Feeder<Tally, 3>;
 
 // One more, where it counts.
 fn next_if(counts: bool, number: u64) -> u64
@@ -43,13 +34,6 @@ fn next_if(counts: bool, number: u64) -> u64
     } else {
         number
     }
-}
-
-// Whether a line that was ended is a row: it has exactly three numbers.
-fn is_row(l: Line) -> bool
-    ensures { result ≡ not l.bad && eqb l.count 3 }
-{
-    !l.bad && l.count == 3
 }
 
 // A row is one step, and its answer is a line: four numbers of at most eleven bytes, with a byte behind each. That the record is sound is a clause, as it
@@ -72,6 +56,27 @@ fn row_told(page: &mut Page, t: Tally, row: [i32; 3]) -> Tally
     }
 }
 
+// A line is a row where it has exactly three numbers.
+impl Told<3> for Tally {
+    ghost most = { 48 };
+
+    ghost can_tell = { λ t. sound_of t.drive ≡ true };
+
+    ghost fits = { is_row };
+
+    ghost after = { tally_of };
+
+    ghost answers = { λ t row text. text ≡ answer_text t row };
+
+    fn told(self, page: &mut Page, numbers: &[i32; 3], count: usize) -> Option<Tally> {
+        if count == 3 {
+            Some(row_told(page, self, *numbers))
+        } else {
+            None
+        }
+    }
+}
+
 // What is written first.
 pub fn put_header(page: &mut Page)
     requires { Room page.old 9 }
@@ -85,15 +90,15 @@ pub fn put_header(page: &mut Page)
 pub fn start(d: Drive) -> Stream
     ensures { as_fed result ≡ stream_start d }
 {
-    Stream {
-        tally: Tally {
+    Feeder {
+        kept: Tally {
             drive: d,
             rows: 0,
             accepted: 0,
             clipped: 0,
         },
         line: text::line_start(),
-        row: [0, 0, 0],
+        numbers: [0, 0, 0],
         begun: false,
         stopped: false,
     }
@@ -101,47 +106,12 @@ pub fn start(d: Drive) -> Stream
 
 // The bytes of a chunk, whether lines stand whole in it or not. A row has a byte at least, so 48 places for each byte are room for any answers.
 pub fn fed(page: &mut Page, s: Stream, chunk: &[u8]) -> Stream
-    requires { (sound_of s.tally.drive ≡ true) × Room page.old (48 * length chunk.now) }
-    ensures stream_value { (as_fed result ≡ rows_fed (as_fed s) chunk.now) × (sound_of result.tally.drive ≡ true) }
+    requires { (sound_of s.kept.drive ≡ true) × Room page.old (48 * length chunk.now) }
+    ensures stream_value { (as_fed result ≡ rows_fed (as_fed s) chunk.now) × (sound_of result.kept.drive ≡ true) }
     ensures put { Put page.old page.new (rows_text (as_fed s) chunk.now) }
     ensures bound { page.new.at ≤ page.old.at + 48 * length chunk.now }
 {
-    let mut now = s;
-    let mut rest = chunk;
-    while !rest.is_empty() && !now.stopped {
-        let f = feeding::line_fed(now.line, rest, &mut now.row);
-        rest = f.rest;
-        if f.ended && is_row(f.line) {
-            now.tally = row_told(page, now.tally, now.row);
-            now.line = text::line_start();
-            now.begun = false;
-        } else {
-            now.line = f.line;
-            now.begun = true;
-            now.stopped = f.ended;
-        }
-    }
-    now
-}
-
-impl Feed for Stream {
-    ghost room = { 48 };
-
-    ghost can_feed = { λ s. sound_of s.tally.drive ≡ true };
-
-    ghost feeds = { FedRows };
-
-    ghost over = { λ s. s.stopped };
-
-    ghost laws = { rows_laws };
-
-    fn fed(self, page: &mut Page, chunk: &[u8]) -> Stream {
-        fed(page, self, chunk)
-    }
-
-    fn is_over(&self) -> bool {
-        self.stopped
-    }
+    feeding::lines_fed(page, s, chunk)
 }
 
 fn put_totals(page: &mut Page, accepted: u64, clipped: u64)
@@ -163,7 +133,7 @@ pub fn ended(page: &mut Page, s: Stream)
     ensures bound { page.new.at ≤ page.old.at + 81 }
 {
     if s.begun {
-        page.put_bad(feeding::next(s.tally.rows));
+        page.put_bad(feeding::next(s.kept.rows));
     }
-    put_totals(page, s.tally.accepted, s.tally.clipped);
+    put_totals(page, s.kept.accepted, s.kept.clipped);
 }
