@@ -49,7 +49,8 @@ module _ {T : Type 0} {n : ℕ} (fits : List ℤ → Bool) (after : T → List �
           → A cur.kept (take l.count ns) text → Put page next text → next.at ≤ page.at + m →
           Telling s chunk first next (record { kept = t; line = start; numbers = ns; begun = false; stopped = false }) behind
       telling_good {t} {start} {next} y et c es a put near =
-          let f : line_due (after cur.kept (take l.count ns)) ns ≡ record { kept = t; reading = record { line = start; numbers = ns }; begun = false; stopped = false } =
+          let f : line_due (after cur.kept (take l.count ns)) ns
+          ≡ record { kept = t; reading = record { line = start; numbers = ns }; begun = false; stopped = false } =
           rw (et, es) refl in
           record {
             can = c;

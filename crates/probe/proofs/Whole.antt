@@ -21,7 +21,8 @@ all_read : (s : Fed Calls) (input eaten : List ℕ) (g : Option (List ℕ)) → 
 all_read s input eaten None c l ends = absurd c
 all_read s input eaten (Some ys) c l ends =
     by_test (fed_of is_call calls_after s eaten).stopped
-    (λ h. ap (fed_of is_call calls_after s) c ∙ fed_in_pieces is_call calls_after s eaten ys ∙ fed_stopped is_call calls_after (fed_of is_call calls_after s eaten) ys h)
+    (λ h. ap (fed_of is_call calls_after s) c ∙ fed_in_pieces is_call calls_after s eaten ys
+    ∙ fed_stopped is_call calls_after (fed_of is_call calls_after s eaten) ys h)
     (λ h. let few : length eaten < 18446744073709551615 = omega (arith, l, ap length c, length-append eaten ys) in
     ap (fed_of is_call calls_after s) (c ∙ ap (λ (bs : List ℕ). eaten ++ bs) (ends h few) ∙ append-nil eaten))
 
