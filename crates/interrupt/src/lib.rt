@@ -44,7 +44,7 @@ impl From<Stepped> for Output {
     }
 }
 
-// The record changed in place by one step.
+// The record changed in place by one step. The sample is three numbers, as include/mirgalhet.h has it.
 pub fn mirgalhet_step(d: &mut Drive, ia: i32, ib: i32, count: i32) -> Output
     ensures { (result ≡ output_of (stepped d.old ia ib count)) × (d.new ≡ (stepped d.old ia ib count).drive) }
 {

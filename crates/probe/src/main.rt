@@ -56,6 +56,7 @@ const TRIPPED: usize = RECORD + 14;
 // What a target has of its own is one number.
 const WITH_TARGET: usize = OWN + 1;
 
+// Functions and no `From`, here and below: an array of numbers does not say at which places these words stand.
 fn settings_in(n: &[i32; ALL]) -> Settings {
     let words = &n[..];
     settings::of_words(&words[SETTINGS..])

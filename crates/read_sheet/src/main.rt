@@ -27,6 +27,7 @@ fn read_through<R: Read>(from: &mut R, text: &mut [u8]) -> Result<usize, Trouble
     ensures broken_off { OnErr result ((eaten : List ℕ) × Consumes (R.remaining from.old) (R.remaining from.new) eaten) }
 {
     let mut size = 0;
+    // a `while`: how much a read brings is not known, so that no range says how many there are
     while size <= ENOUGH {
         let more = pipes::receive(from, &mut text[size..size + CHUNK])?;
         if more == 0 {
@@ -56,6 +57,7 @@ fn answer_through<R: Read, W: Write>(
 }
 
 // Where a read or a write failed words on standard error say so, and where a read failed nothing is said of the text.
+// (probe's `main` is like it; one for both would take rooms, name and work as parameters, and be no shorter.)
 fn main(rt: HostRuntime) {
     let mut text = [0u8; ROOM];
     let mut out = [0u8; ANSWER];

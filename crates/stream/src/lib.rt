@@ -105,6 +105,7 @@ pub fn start(d: Drive) -> Stream
 }
 
 // The bytes of a chunk, whether lines stand whole in it or not. A row has a byte at least, so 48 places for each byte are room for any answers.
+// The stream as one function, of which docs/PROMISES.md speaks; a program goes by `Feed`, whose `fed` is the same loop.
 pub fn fed(page: &mut Page, s: Stream, chunk: &[u8]) -> Stream
     requires { (sound_of s.kept.drive ≡ true) × Room page.old (48 * length chunk.now) }
     ensures stream_value { (as_fed result ≡ rows_fed (as_fed s) chunk.now) × (sound_of result.kept.drive ≡ true) }

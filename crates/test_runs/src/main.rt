@@ -32,6 +32,7 @@ fn ran(rt: HostRuntime, d: Drive, samples: &[i32], lent: usize, out: &mut [u8])
     tell(rt, r, &answers, out);
 }
 
+// As `drive::with_target` by its form alone: another word is changed.
 fn turned_too_far(d: Drive) -> Drive {
     Drive {
         field: Field {
