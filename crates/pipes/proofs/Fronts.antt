@@ -11,6 +11,10 @@ use Rattle.writing.specs.Page.{Put}
 use Rattle.writing.specs.Decimal.{written}
 use Rattle.pipes.specs.Counts.{AppendsFront, AppendsLess}
 
+-- so many bytes of those behind a place are within what there is
+pub within : (xs : List ℕ) (d n : ℕ) → d ≤ length xs → n ≤ length (take (length xs - d) (drop d xs)) → d + n ≤ length xs
+within xs d n h l = omega (arith, h, l, length-drop d xs, ap length (take_all (length xs - d) (drop d xs) (omega (arith, length-drop d xs))))
+
 -- what a write that failed took
 pub kept_none : (b c : Option (List ℕ)) → Keeps b c → Appends b c []
 kept_none b c k = Appends-kept b b c [] (Appends-nil b) k
@@ -40,12 +44,19 @@ module _ (a b c : Option (List ℕ)) (bs front rest : List ℕ) (is : bs ≡ fro
 pub front_first : (a c : Option (List ℕ)) (xs ys : List ℕ) → AppendsFront a c xs (length xs) → AppendsFront a c (xs ++ ys) (length (xs ++ ys))
 front_first a c xs ys (n, l, h) = (n, omega (arith, l, length-append xs ys), subst (Appends a c) (sym (take-append-le n xs ys l)) h)
 
+second_taken : (xs ys : List ℕ) (n : ℕ) → take (length xs + n) (xs ++ ys) ≡ xs ++ take n ys
+second_taken xs ys n = take-add (length xs) n (xs ++ ys) ∙ rw (take_at xs ys (length xs) refl, drop_at xs ys (length xs) refl) refl
+
 -- the first, and a front of the second
 pub front_second : (a b c : Option (List ℕ)) (xs ys : List ℕ) → Appends a b xs → AppendsFront b c ys (length ys) → AppendsFront a c (xs ++ ys) (length (xs ++ ys))
 front_second a b c xs ys h (n, l, k) =
-    let e : take (length xs + n) (xs ++ ys) ≡ xs ++ take n ys =
-    take-add (length xs) n (xs ++ ys) ∙ rw (take_at xs ys (length xs) refl, drop_at xs ys (length xs) refl) refl in
-    (length xs + n, omega (arith, l, length-append xs ys), subst (Appends a c) (sym e) (Appends-trans a b c xs (take n ys) h k))
+    (length xs + n, omega (arith, l, length-append xs ys), subst (Appends a c) (sym (second_taken xs ys n)) (Appends-trans a b c xs (take n ys) h k))
+
+-- the first, and less than the second
+pub less_second : (a b c : Option (List ℕ)) (xs ys : List ℕ) → Appends a b xs → AppendsLess b c ys (length ys)
+    → (n : ℕ) × (length xs ≤ n) × (n < length (xs ++ ys)) × Appends a c (take n (xs ++ ys))
+less_second a b c xs ys h (n, l, k) =
+    (length xs + n, omega arith, omega (arith, l, length-append xs ys), subst (Appends a c) (sym (second_taken xs ys n)) (Appends-trans a b c xs (take n ys) h k))
 
 -- what stands on a page, from its first place up to where it is, is what was put on it
 page_front : (p q : Page) (xs out : List ℕ) (n : ℕ) → Put p q xs → p.at ≡ 0 → n ≡ q.at → out ≡ q.out.now → take n out ≡ xs
@@ -62,3 +73,8 @@ pub page_part : (v w : Option (List ℕ)) (p q : Page) (xs out : List ℕ) (n : 
     → Put p q xs → p.at ≡ 0 → n ≡ q.at → out ≡ q.out.now → AppendsFront v w (take n out) (length (take n out)) → AppendsFront v w xs (length xs)
 page_part v w p q xs out n put first at is part =
     subst (λ (bs : List ℕ). AppendsFront v w bs (length bs)) (page_front p q xs out n put first at is) part
+
+pub page_less : (v w : Option (List ℕ)) (p q : Page) (xs out : List ℕ) (n : ℕ)
+    → Put p q xs → p.at ≡ 0 → n ≡ q.at → out ≡ q.out.now → AppendsLess v w (take n out) (length (take n out)) → AppendsLess v w xs (length xs)
+page_less v w p q xs out n put first at is less =
+    subst (λ (bs : List ℕ). AppendsLess v w bs (length bs)) (page_front p q xs out n put first at is) less

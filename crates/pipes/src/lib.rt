@@ -76,9 +76,9 @@ pub fn feed_through<R: Read, W: Write, F: Feed>(
     out: &mut [u8],
 ) -> Result<F, Trouble>
     requires { F.can_feed first × (0 < length bytes.old) × (F.room * length bytes.old ≤ length out.old) }
-    ensures through { IfOk result (λ last. Through F.feeds F.over first last
+    ensures through { IfOk result (λ last. Through F.feeds F.over (length bytes.old) first last
         (R.remaining from.old) (R.remaining from.new) (W.contents to.old) (W.contents to.new)) }
-    ensures broken_off { IfErr result (λ why. BrokenOff F.feeds why first
+    ensures broken_off { IfErr result (λ why. BrokenOff F.feeds F.over (length bytes.old) why first
         (R.remaining from.old) (R.remaining from.new) (W.contents to.old) (W.contents to.new)) }
 {
     let mut s = first;

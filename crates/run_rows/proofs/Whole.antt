@@ -7,13 +7,13 @@ use Rattle.std.proofs.KnownBytes.{Appends-trans}
 use Rattle.fixed.proofs.Choice.{by_test}
 use Rattle.drive_record.specs.declared.Drive.{Drive}
 use Rattle.feeding.specs.Feeding.{Fed, joined}
-use Rattle.feeding.specs.Feeds.{as_fed, Feeds}
+use Rattle.feeding.specs.Feeds.{as_fed}
 use Rattle.pipes.specs.Through.{Through}
+use Rattle.stream.specs.declared.Rows.{Rows}
 use Rattle.stream.specs.declared.Tally.{Tally}
-use Rattle.stream.specs.Feeds.{Stream}
-use Rattle.stream.specs.Program.{is_row, tally_of, answer_text, header_text, program_text}
+use Rattle.stream.specs.Feeds.{RowsFed}
+use Rattle.stream.specs.Program.{header_text, program_text}
 use Rattle.stream.specs.Streaming.{stream_start, rows_fed, rows_text, last_text, chunks_text}
-use Rattle.stream.proofs.Feeding.{fed_rows}
 use Rattle.stream.proofs.Whole.{program, unread}
 
 -- what was read, as one chunk
@@ -34,14 +34,13 @@ all_read d input eaten (Some ys) c l ends =
     ap (program_text d) (c ∙ ap (λ (l : List ℕ). eaten ++ l) (ends h few) ∙ append-nil eaten))
 
 -- the header, the turns and the closing: what was written of an input
-pub finished : (d : Drive) (first last : Stream) (f g v w x y : Option (List ℕ)) → as_fed first ≡ stream_start d → Appends v w header_text
-    → Through (Feeds is_row tally_of (λ t row x. x ≡ answer_text t row)) (λ s. s.stopped) first last f g w x → Appends x y (last_text (as_fed last))
+pub finished : (d : Drive) (first last : Rows) (room : ℕ) (f g v w x y : Option (List ℕ)) → as_fed first.stream ≡ stream_start d → Appends v w header_text
+    → Through RowsFed (λ r. r.stream.stopped) room first last f g w x → Appends x y (last_text (as_fed last.stream))
     → IfSome f (λ input. length input < 18446744073709551615 → Appends v y (program_text d input))
-finished d first last None g v w x y starts header t close = tt
-finished d first last (Some input) g v w x y starts header t close = λ small.
-    let rows = fed_rows first last t.eaten t.text t.fed in
-    let fed : as_fed last ≡ rows_fed (stream_start d) t.eaten = rows.0 ∙ ap (λ (s : Fed Tally). rows_fed s t.eaten) starts in
-    let text : t.text ≡ rows_text (stream_start d) t.eaten = rows.1 ∙ ap (λ (s : Fed Tally). rows_text s t.eaten) starts in
+finished d first last room None g v w x y starts header t close = tt
+finished d first last room (Some input) g v w x y starts header t close = λ small.
+    let fed : as_fed last.stream ≡ rows_fed (stream_start d) t.eaten = t.fed.0 ∙ ap (λ (s : Fed Tally). rows_fed s t.eaten) starts in
+    let text : t.text ≡ rows_text (stream_start d) t.eaten = t.fed.1 ∙ ap (λ (s : Fed Tally). rows_text s t.eaten) starts in
     let stop = ap (λ (s : Fed Tally). s.stopped) fed in
     let sent = subst (Appends w x) text t.sent in
     let closing = subst (λ (s : Fed Tally). Appends x y (last_text s)) fed close in

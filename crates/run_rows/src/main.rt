@@ -10,7 +10,7 @@ ghost use Rattle.drive_record.specs.Record.{sound as sound_of};
 use drive_record::Drive;
 use pipes::Trouble;
 use std::io::{Read, Write};
-use stream::Stream;
+use stream::{Rows, Stream};
 use writing::Page;
 
 // The run: the header, the answers as the rows come, and the totals; where a read or a write failed no totals. So if all of an input was read, of fewer than
@@ -31,7 +31,10 @@ fn run_through<R: Read, W: Write>(
     stream::put_header(&mut header);
     let place = header.place();
     pipes::send(to, &out[..place])?;
-    let s = pipes::feed_through(from, to, stream::start(d), bytes, out)?;
+    let first = Rows {
+        stream: stream::start(d),
+    };
+    let s = pipes::feed_through(from, to, first, bytes, out)?.stream;
     let mut closing = Page::new(out, 0);
     stream::ended(&mut closing, s);
     let end = closing.place();

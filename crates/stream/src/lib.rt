@@ -8,9 +8,10 @@ ghost use Rattle.feeding.specs.Lines.{one_more};
 ghost use Rattle.feeding.specs.Feeds.{as_fed};
 ghost use Rattle.stream.specs.Program.{is_row, header_text, tally_of, answer_text, totals_text};
 ghost use Rattle.stream.specs.Streaming.{stream_start, rows_fed, rows_text, last_text};
+ghost use Rattle.stream.specs.Feeds.{RowsFed, rows_laws};
 
 use drive_record::Drive;
-use feeding::{Feeder, Told};
+use feeding::{Feed, Feeder, Told};
 use writing::Page;
 
 // What goes from one row to the next: the drive, how many rows came, the accepted steps and the clipped ones among them.
@@ -78,6 +79,7 @@ impl Told<3> for Tally {
 }
 
 // What is written first.
+#[tactic(auto, unfolding(crate::specs::Program::header_text))]
 pub fn put_header(page: &mut Page)
     requires { Room page.old 9 }
     ensures put { Put page.old page.new header_text }
@@ -105,7 +107,6 @@ pub fn start(d: Drive) -> Stream
 }
 
 // The bytes of a chunk, whether lines stand whole in it or not. A row has a byte at least, so 48 places for each byte are room for any answers.
-// The stream as one function, of which docs/PROMISES.md speaks; a program goes by `Feed`, whose `fed` is the same loop.
 pub fn fed(page: &mut Page, s: Stream, chunk: &[u8]) -> Stream
     requires { (sound_of s.kept.drive ≡ true) × Room page.old (48 * length chunk.now) }
     ensures stream_value { (as_fed result ≡ rows_fed (as_fed s) chunk.now) × (sound_of result.kept.drive ≡ true) }
@@ -113,6 +114,35 @@ pub fn fed(page: &mut Page, s: Stream, chunk: &[u8]) -> Stream
     ensures bound { page.new.at ≤ page.old.at + 48 * length chunk.now }
 {
     feeding::lines_fed(page, s, chunk)
+}
+
+// The stream as a program feeds it: each chunk goes through `fed`, so what that promises holds of the program. A type of its own, since as a `Feeder` it
+// would be fed by the loop of `feeding`, past `fed`.
+#[derive(Clone, Copy)]
+pub struct Rows {
+    pub stream: Stream,
+}
+
+impl Feed for Rows {
+    ghost room = { 48 };
+
+    ghost can_feed = { λ r. sound_of r.stream.kept.drive ≡ true };
+
+    ghost feeds = { RowsFed };
+
+    ghost over = { λ r. r.stream.stopped };
+
+    ghost laws = { rows_laws };
+
+    fn fed(self, page: &mut Page, chunk: &[u8]) -> Rows {
+        Rows {
+            stream: fed(page, self.stream, chunk),
+        }
+    }
+
+    fn is_over(&self) -> bool {
+        self.stream.stopped
+    }
 }
 
 fn put_totals(page: &mut Page, accepted: u64, clipped: u64)

@@ -8,6 +8,6 @@ invariant-loop-turns g l = record {
   chunk : length l.bytes ≡ length l.initial.bytes;
   room : length l.out ≡ length l.initial.out;
   can : g.F.Feed.can_feed l.s;
-  turns : Fed g.F.Feed.feeds l.initial.s l.s (g.R.Read.remaining l.initial.from) (g.R.Read.remaining l.from)
+  turns : Fed g.F.Feed.feeds g.F.Feed.over l.initial.s l.s (g.R.Read.remaining l.initial.from) (g.R.Read.remaining l.from)
       (g.W.Write.contents l.initial.to) (g.W.Write.contents l.to) l.turns;
 }

@@ -4,4 +4,4 @@ use Rattle.probe.proofs.Whole.{counted}
 use Rattle.probe.proofs.run_through.Goals as goal
 
 pub returns : goal.returns
-returns g c = counted _ _ _ _ _ _ c.start.ensures c.in_ok-s.ensures.through
+returns g c = counted _ _ _ _ _ _ _ _ c.start.ensures c.in_ok-s.ensures.through
