@@ -2,13 +2,37 @@
 // model of the drive, in any language, can be held against it word by word.
 #![tactic(auto)]
 
-ghost use Rattle.std.specs.Prelude.{◌≡◌, ⊤, ◌*◌, ◌+◌, ◌<◌, ◌≤◌, cond, [], pos, get_or, is_some, length, replicate, List, ℕ, IfOk, IfSome};
-ghost use Rattle.writing.specs.Decimal.{bad_text};
+ghost use Rattle.std.specs.Prelude.{◌≡◌, ⊤, ◌*◌, ◌+◌, ◌<◌, ◌≤◌, cond, [], ◌++◌, pos, get_or, is_some, length, replicate, List, IfOk, IfSome};
+ghost use Rattle.writing.specs.Decimal.{bad_text, line_text};
 ghost use Rattle.writing.specs.Page.{Put, Room};
 ghost use Rattle.feeding.specs.Lines.{one_more, good_lines, ends_bad, after_all};
 ghost use Rattle.feeding.specs.Feeding.{line_due};
 ghost use Rattle.feeding.specs.Feeds.{as_fed};
-ghost use Rattle.probe.specs.Calls.{most, record_at, is_flag, flags, call_by, is_call, calls_start, calls_after};
+ghost use Rattle.probe.specs.Calls.{
+  most,
+  record_at,
+  is_flag,
+  flags,
+  call_by,
+  is_call,
+  calls_start,
+  calls_after,
+  flag_of,
+  settings_at,
+  shaft_at,
+  command_at,
+  field_at,
+  integrals_at,
+  drive_at,
+  call_of,
+  record_words as record_words_of,
+  made_words,
+  stepped_words,
+  answered_words,
+  answer_words,
+  call_text,
+};
+ghost use Rattle.drive.specs.Calls.{made};
 
 use drive::Answered;
 use drive_record::{Command, Drive, Integrals};
@@ -57,14 +81,17 @@ const TRIPPED: usize = RECORD + 14;
 const WITH_TARGET: usize = OWN + 1;
 
 // Functions and no `From`, here and below: an array of numbers does not say at which places these words stand.
-fn settings_in(n: &[i32; ALL]) -> Settings {
+fn settings_in(n: &[i32; ALL]) -> Settings
+    ensures { result ≡ settings_at n.now }
+{
     let words = &n[..];
     settings::of_words(&words[SETTINGS..])
 }
 
 // A flag is 0 or 1.
 fn flag(word: i32) -> Option<bool>
-    ensures { is_some result ≡ is_flag word }
+    ensures good { is_some result ≡ is_flag word }
+    ensures value { IfSome result (λ set. set ≡ flag_of word) }
 {
     match word {
         0 => Some(false),
@@ -73,8 +100,10 @@ fn flag(word: i32) -> Option<bool>
     }
 }
 
+#[tactic(auto, unfolding(crate::specs::Calls::shaft_at))]
 fn shaft_in(n: &[i32; ALL]) -> Option<Shaft>
-    ensures { is_some result ≡ is_flag (get_or n.now (record_at + 1) (pos 0)) }
+    ensures good { is_some result ≡ is_flag (get_or n.now (record_at + 1) (pos 0)) }
+    ensures value { IfSome result (λ s. s ≡ shaft_at n.now) }
 {
     Some(Shaft {
         count: n[RECORD],
@@ -85,7 +114,10 @@ fn shaft_in(n: &[i32; ALL]) -> Option<Shaft>
     })
 }
 
-fn command_in(n: &[i32; ALL]) -> Command {
+#[tactic(auto, unfolding(crate::specs::Calls::command_at))]
+fn command_in(n: &[i32; ALL]) -> Command
+    ensures { result ≡ command_at n.now }
+{
     Command {
         target: n[RECORD + 5],
         reference: n[RECORD + 6],
@@ -94,14 +126,20 @@ fn command_in(n: &[i32; ALL]) -> Command {
     }
 }
 
-fn field_in(n: &[i32; ALL]) -> Field {
+#[tactic(auto, unfolding(crate::specs::Calls::field_at))]
+fn field_in(n: &[i32; ALL]) -> Field
+    ensures { result ≡ field_at n.now }
+{
     Field {
         fine: n[RECORD + 9],
         angle: n[RECORD + 10],
     }
 }
 
-fn integrals_in(n: &[i32; ALL]) -> Integrals {
+#[tactic(auto, unfolding(crate::specs::Calls::integrals_at))]
+fn integrals_in(n: &[i32; ALL]) -> Integrals
+    ensures { result ≡ integrals_at n.now }
+{
     Integrals {
         speed: n[RECORD + 11],
         d: n[RECORD + 12],
@@ -110,7 +148,8 @@ fn integrals_in(n: &[i32; ALL]) -> Integrals {
 }
 
 fn drive_in(n: &[i32; ALL]) -> Option<Drive>
-    ensures { is_some result ≡ flags n.now }
+    ensures good { is_some result ≡ flags n.now }
+    ensures value { IfSome result (λ d. d ≡ drive_at n.now) }
 {
     Some(Drive {
         settings: settings_in(n),
@@ -125,7 +164,8 @@ fn drive_in(n: &[i32; ALL]) -> Option<Drive>
 // The call that so many numbers are, if they are one: 0 makes a drive, 1 steps it, 2 sets its target, 3 clears it.
 #[tactic(auto, unfolding(crate::specs::Calls::call_by))]
 fn call_in(n: &[i32; ALL], count: usize) -> Option<Call>
-    ensures { is_some result ≡ call_by n.now count }
+    ensures good { is_some result ≡ call_by n.now count }
+    ensures value { IfSome result (λ c. c ≡ call_of n.now) }
 {
     match n[0] {
         0 if count == RECORD => Some(Call::Make(settings_in(n))),
@@ -137,7 +177,9 @@ fn call_in(n: &[i32; ALL], count: usize) -> Option<Call>
 }
 
 // Numbers out: the record's 15 words.
-fn record_words(d: Drive) -> [i32; 15] {
+fn record_words(d: Drive) -> [i32; 15]
+    ensures { result ≡ record_words_of d }
+{
     [
         d.shaft.count,
         i32::from(d.shaft.seen),
@@ -160,7 +202,7 @@ fn record_words(d: Drive) -> [i32; 15] {
 // Numbers, and the record's words behind them, as a line: twelve bytes for each of 22 words at most.
 fn put_with_record(page: &mut Page, numbers: &[i32], d: Drive)
     requires { (length numbers.now ≤ 7) × Room page.old 264 }
-    ensures put { (text : List ℕ) × Put page.old page.new text }
+    ensures put { Put page.old page.new (line_text (numbers.now ++ record_words_of d)) }
     ensures bound { page.new.at ≤ page.old.at + 264 }
 {
     let mut words = [0i32; 22];
@@ -172,7 +214,7 @@ fn put_with_record(page: &mut Page, numbers: &[i32], d: Drive)
 
 fn put_made(page: &mut Page, s: Settings)
     requires { Room page.old 264 }
-    ensures put { (text : List ℕ) × Put page.old page.new text }
+    ensures put { Put page.old page.new (line_text (made_words (made s))) }
     ensures bound { page.new.at ≤ page.old.at + 264 }
 {
     match drive::make(s) {
@@ -183,7 +225,7 @@ fn put_made(page: &mut Page, s: Settings)
 
 fn put_answered(page: &mut Page, a: Answered)
     requires { Room page.old 264 }
-    ensures put { (text : List ℕ) × Put page.old page.new text }
+    ensures put { Put page.old page.new (line_text (answered_words a)) }
     ensures bound { page.new.at ≤ page.old.at + 264 }
 {
     put_with_record(page, &[a.number], a.drive);
@@ -191,7 +233,7 @@ fn put_answered(page: &mut Page, a: Answered)
 
 fn put_stepped(page: &mut Page, s: Stepped)
     requires { Room page.old 264 }
-    ensures put { (text : List ℕ) × Put page.old page.new text }
+    ensures put { Put page.old page.new (line_text (stepped_words s)) }
     ensures bound { page.new.at ≤ page.old.at + 264 }
 {
     let p = s.pulses;
@@ -209,7 +251,7 @@ fn put_stepped(page: &mut Page, s: Stepped)
 
 fn put_answer(page: &mut Page, call: Call)
     requires { Room page.old 264 }
-    ensures put { (text : List ℕ) × Put page.old page.new text }
+    ensures put { Put page.old page.new (line_text (answer_words call)) }
     ensures bound { page.new.at ≤ page.old.at + 264 }
 {
     match call {
@@ -220,7 +262,7 @@ fn put_answer(page: &mut Page, call: Call)
     }
 }
 
-// A line is a call where its numbers are one; it is answered by 264 bytes at most, of which nothing is said.
+// A line is a call where its numbers are one; it is answered what the drive answers that call, by 264 bytes at most.
 impl Told<ALL> for Calls {
     ghost most = { 264 };
 
@@ -230,7 +272,7 @@ impl Told<ALL> for Calls {
 
     ghost after = { calls_after };
 
-    ghost answers = { λ c ns text. ⊤ };
+    ghost answers = { λ c ns text. text ≡ call_text ns };
 
     fn told(self, page: &mut Page, numbers: &[i32; ALL], count: usize) -> Option<Calls> {
         let call = call_in(numbers, count)?;
