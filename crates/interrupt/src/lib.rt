@@ -75,13 +75,11 @@ pub fn mirgalhet_clear(d: &mut Drive) -> i32
 pub fn mirgalhet_start(d: &mut Drive, settings: Settings) -> i32
     ensures { (result ≡ made_number (made settings)) × (d.new ≡ drive_or d.old (made settings)) }
 {
-    match drive::make(settings) {
-        Ok(fresh) => {
-            *d = fresh;
-            0
-        }
-        Err(why) => why.number(),
+    let made = drive::make(settings);
+    if let Ok(fresh) = made {
+        *d = fresh;
     }
+    drive::number_of(made)
 }
 
 // The flux of a record's word `fine`, for whoever reads the record: C's own division rounds the other way below 0.
