@@ -59,7 +59,7 @@ pub fn fresh(s: Settings) -> Drive
 }
 
 // A fresh drive with these settings, or why they are refused.
-#[tactic(auto, using(crate::proofs::CallLaws::made_ready, crate::proofs::CallLaws::made_refused))]
+#[tactic(auto, unfolding(crate::specs::Calls::made, settings::specs::Settings::checked))]
 pub fn make(s: Settings) -> Result<Drive, Refusal>
     ensures { result ≡ made s }
 {

@@ -1,7 +1,7 @@
 -- A sound record as named ranges, which is what the stages of a step stand on: `sound d ≡ true` exactly when `Sound d`.
 -- Assumes nothing.
 use mathlib.Core.Path.{◌≡◌, refl, sym, ap}
-use mathlib.Core.Bool.{Bool, true, false, not}
+use mathlib.Core.Bool.{Bool, true, false, not, ◌&&◌}
 use mathlib.Core.Logic.{◌↔◌}
 use lib.IntN.{pos}
 use Rattle.fixed.specs.Fixed.{within, inside}
@@ -65,6 +65,18 @@ words→ d a e =
 pub sound→ : (d : Drive) → sound d ≡ true → Sound d
 unfolding sound
 sound→ d e = let h = two (accepted d.settings) (words_ok d) e in words→ d h.0 h.1
+
+pub sound_parts : (d : Drive) → accepted d.settings ≡ true → words_ok d ≡ true → sound d ≡ true
+unfolding sound
+sound_parts d a e = and_both a e
+
+pub words_broken : (d : Drive) → words_ok d ≡ false → broken d ≡ true
+unfolding broken sound
+words_broken d e = rw e (by (accepted d.settings))
+  where
+    by : (b : Bool) → not (b && false) ≡ true
+    by true = refl
+    by false = refl
 
 pub sound← : (d : Drive) → Sound d → sound d ≡ true
 unfolding sound words_ok command_ok integrals_ok inside

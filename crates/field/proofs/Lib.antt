@@ -5,3 +5,4 @@ pub mod FieldRanges
 pub mod AtBench
 pub mod Arriving
 pub mod FromRest
+pub mod Turns

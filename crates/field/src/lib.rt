@@ -63,6 +63,7 @@ fn slip(kt: i32, flux: i32, q: i32) -> i32
 }
 
 // The angle after the step, from the speed n and the slip s. A negative angle comes round from the top.
+#[tactic(auto, using(crate::proofs::Turns::turning))]
 fn angle_next(kth: i32, angle: i32, n: i32, s: i32) -> i32
     requires { (nat_abs kth ≤ 8191) × (nat_abs angle ≤ angles.hi) × (nat_abs n ≤ speed_end) × (nat_abs s ≤ slip_end) }
     ensures { result ≡ angle_next kth angle (n +ℤ s) }

@@ -3,10 +3,11 @@
 use mathlib.Core.Path.{◌≡◌, refl, ap, sym, ◌∙◌}
 use mathlib.Core.Bool.{Bool, true, false}
 use mathlib.Core.List.{List, [], ◌∷◌, ◌++◌, append_assoc, append-nil}
-use Prim.Native.Nat.{ℕ, zero, suc, ◌+◌, ◌-◌, ◌≤◌, ◌<◌}
+use Prim.Native.Nat.{ℕ, zero, suc, ◌+◌, ◌-◌, ◌≤◌, ◌<◌, min}
 use native.Mathlib.Numerals.{add-one}
 use native.Mathlib.Omega.{arith}
 use lib.ListN.{length, get_or, take, drop, length-take, length-drop, drop_of_length-le}
+use lib.Seq.{take_all}
 use borrow.Author.Tests.{lt-ltb, le-ltb}
 use lib.IntN.{ℤ, pos}
 use denote.Enum.Bare.{sameb}
@@ -29,6 +30,7 @@ use Rattle.fixed.specs.declared.refusal.Refusal.TheVariants.{
   NoRow,
 }
 use Rattle.fixed.specs.Refusal.{number_of}
+use Rattle.fixed.proofs.Choice.{by_order}
 use Rattle.std.specs.Prelude.{Option, Some, None, Err, MatchOption}
 use Rattle.fixed.specs.Fixed.{is_in, within}
 use Rattle.settings.specs.Words.{Entry, entries, entry_at, no_entry, size}
@@ -44,6 +46,24 @@ use Rattle.findings.specs.Phrases as say
 use Rattle.findings.specs.Findings.{shown_byte, shown, quoted, end_text, from_line, first_out}
 
 -- ════ bytes as they are shown
+pub shown_length : (bs : List ℕ) → length (shown bs) ≡ length bs
+unfolding shown
+shown_length [] = refl
+shown_length (b ∷ bs) = ap suc (shown_length bs)
+
+pub shown_get : (bs : List ℕ) (i : ℕ) → i < length bs → get_or (shown bs) i 0 ≡ shown_byte (get_or bs i 0)
+unfolding shown
+shown_get [] i h = absurd (omega (arith, h))
+shown_get (b ∷ bs) zero h = refl
+shown_get (b ∷ bs) (suc i) h = shown_get bs i (omega (arith, h))
+
+-- the first bytes, where as many are taken as there are, and m at most
+pub first_part : (n m : ℕ) (bs : List ℕ) → n ≡ min (length bs) m → take n bs ≡ take m bs
+first_part n m bs e =
+    by_order (length bs) m
+    (λ h. take_all n bs (omega (arith, e, h)) ∙ sym (take_all m bs (omega (arith, h))))
+    (λ h. let z : n ≡ m = omega (arith, e, h) in ap (λ (k : ℕ). take k bs) z)
+
 shown_one : (bs : List ℕ) (b : ℕ) → shown (bs ++ (b ∷ [])) ≡ shown bs ++ (shown_byte b ∷ [])
 unfolding shown
 shown_one [] b = refl

@@ -1,3 +1,5 @@
+pub mod RowFromBits
+pub mod MomentsFromBits
 pub mod Owned
 pub mod Rows
 pub mod Calls

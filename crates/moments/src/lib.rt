@@ -192,7 +192,7 @@ pub fn row_of(ia: i32, ib: i32, s: Stepped) -> Row
 }
 
 // The record after a step that answered s, in place. A refused step adds no row.
-#[tactic(auto, using(crate::proofs::Calls::kept_accepted, crate::proofs::Calls::kept_refused))]
+#[tactic(auto, using(crate::proofs::Calls::keeping))]
 pub fn keep(m: &mut Moments, ia: i32, ib: i32, s: Stepped)
     ensures { m.new ≡ kept m.old ia ib s }
 {

@@ -6,16 +6,17 @@ use mathlib.Core.Bool.{true}
 use Prim.Native.Nat.{ℕ, ◌+◌, ◌-◌, ◌*◌, ◌≤◌, ◌<◌}
 use native.Mathlib.Omega.{arith}
 use borrow.Author.Tests.{ltb-true, ltb-false}
-use lib.Dec.{T, ltb}
-use lib.IntN.{ℤ, pos, nat_abs, neg_ℤ, ◌+ℤ◌, ◌-ℤ◌, ◌*ℤ◌}
-use lib.Signed.{non_neg, yes_non_neg}
+use lib.Dec.{T, ltb, ltb→lt}
+use lib.IntN.{ℤ, pos, negsuc, nat_abs, neg_ℤ, ◌+ℤ◌, ◌-ℤ◌, ◌*ℤ◌}
+use lib.Signed.{◌≤ℤ◌, ◌<ℤ◌, non_neg, yes_non_neg}
+use Rattle.std.specs.Prelude.{None}
 use Rattle.fixed.specs.Fixed.{within, modulo}
 use Rattle.fixed.proofs.Parts.{diffs, order}
 use Rattle.fixed.proofs.DownLaws.{modulo_unique}
 use Rattle.fixed.proofs.Choice.{choose}
 use Rattle.fixed.proofs.Ranges.{two}
 use Rattle.fixed.proofs.HeldLaws.{and_both, within_lo, within_yes, within_size}
-use Rattle.ring.specs.Ring.{in_range, place_in, rows_in, place_after, one_more, place_of_row}
+use Rattle.ring.specs.Ring.{in_range, place_in, rows_in, place_after, one_more, place_of_row, place_at, row_place}
 
 -- ════ the counts
 -- what the test says of each: the number that is cast is not negative, and a place or a count of the ring
@@ -84,3 +85,17 @@ place_modulo at real i a r l =
   where
     turns : (at real i r t : ℕ) → r + real ≡ 128 * t + (at + i) → pos at -ℤ pos real +ℤ pos i ≡ pos 128 *ℤ neg_ℤ (pos t) +ℤ pos r
     turns at real i r t e = simp diffs (omega arith)
+
+-- no row comes before the oldest
+no_less : (n : ℕ) → T (ltb n 0) → ⊥
+no_less n t = let h : n < 0 = ltb→lt n 0 t in omega arith
+
+pub before_oldest : (next real i : ℤ) → i <ℤ pos 0 → row_place next real i ≡ None
+unfolding row_place
+before_oldest next real (pos i) h = absurd (no_less i h.lt)
+before_oldest next real (negsuc i) h = refl
+
+pub from_oldest : (next real i : ℤ) → pos 0 ≤ℤ i → row_place next real i ≡ place_at next real (nat_abs i)
+unfolding row_place
+from_oldest next real (pos i) h = refl
+from_oldest next real (negsuc i) h = absurd h.le

@@ -1,12 +1,12 @@
 -- What a run answers and leaves, case by case: 14, 9, and the rows; and when each is so.
 -- Assumes nothing.
-use mathlib.Core.Path.{◌≡◌}
-use mathlib.Core.Bool.{true, false}
+use mathlib.Core.Path.{◌≡◌, refl, sym}
+use mathlib.Core.Bool.{Bool, true, false}
 use mathlib.Core.List.{List, ◌++◌}
 use Prim.Native.Nat.{ℕ, ◌*◌, ◌/◌, ◌%◌, ◌≤◌}
 use native.Mathlib.Omega.{arith}
-use borrow.Author.Tests.{leb-true, eqb-true}
-use lib.Dec.{eqb}
+use borrow.Author.Tests.{le-leb, lt-leb, leb-true, leb-false, eqb-true}
+use lib.Dec.{eqb, leb}
 use lib.IntN.{ℤ, pos}
 use lib.ListN.{length, drop}
 use Rattle.fixed.proofs.HeldLaws.{and_left, and_right}
@@ -15,6 +15,14 @@ use Rattle.drive_record.specs.Record.{broken}
 use Rattle.rows.specs.Rows.{no_rows, ran_of, written_of, rows_in, rows_fit, run_of, output_after}
 
 -- ════ 9
+-- n rows against the output, counted in fours
+pub fours : (n m : ℕ) → leb n (m / 4) ≡ leb (4 * n) m
+fours n m = by (leb n (m / 4)) refl
+  where
+    by : (b : Bool) → leb n (m / 4) ≡ b → b ≡ leb (4 * n) m
+    by true e = sym (le-leb (4 * n) m (omega (arith, leb-true n (m / 4) e)))
+    by false e = sym (lt-leb (4 * n) m (omega (arith, leb-false n (m / 4) e)))
+
 pub threes : (samples out : ℕ) → rows_fit samples out ≡ true → samples ≡ 3 * (samples / 3)
 unfolding rows_fit
 threes samples out e = let m = eqb-true (samples % 3) 0 (and_left (eqb (samples % 3) 0) _ e) in omega arith

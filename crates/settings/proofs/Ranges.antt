@@ -4,9 +4,10 @@ use mathlib.Core.Path.{◌≡◌, refl, sym, ap, ◌∙◌}
 use mathlib.Core.Logic.{◌↔◌}
 use mathlib.Core.Bool.{Bool, true, false, cond, ◌&&◌, true≢false}
 use lib.IntN.{ℤ, pos, ◌*ℤ◌}
+use lib.Signed.{le_z}
 use Rattle.fixed.specs.Fixed.{is_in}
 use Rattle.fixed.proofs.HeldLaws.{and_both, equal_is}
-use Rattle.fixed.proofs.LadderLaws.{all_pass_lem, answered_by_lem}
+use Rattle.fixed.proofs.LadderLaws.{all_pass_lem, none_given, answered_by_lem}
 use Rattle.fixed.proofs.Ranges.{In, two, three, four}
 use Rattle.settings.specs.declared.Settings.{Settings}
 use Rattle.std.specs.Prelude.{Result, Ok, Err, is_ok, List, [], ◌∷◌}
@@ -87,6 +88,11 @@ accepted← s i =
 pub checked_is : (s : Settings) → checked s ≡ cond (accepted s) (Ok s) (refuse (refusal s))
 unfolding checked accepted refusal
 checked_is s = answered_by_lem refuse (refusals s) (Ok s)
+
+-- accepted exactly where the number is at most 0
+pub accepted_is : (s : Settings) → le_z (refusal s) (pos 0) ≡ accepted s
+unfolding accepted refusal
+accepted_is s = none_given (refusals s) refl
 
 pub checked_ok : (s : Settings) → is_ok (checked s) ≡ accepted s
 checked_ok s = ap is_ok (checked_is s) ∙ by (accepted s)

@@ -146,6 +146,7 @@ pub fn check(s: Settings) -> Result<Settings, Refusal>
 }
 
 // Whether settings are accepted.
+#[tactic(auto, using(crate::proofs::Ranges::checked_ok))]
 pub fn is_accepted(s: Settings) -> bool
     ensures { result ≡ accepted s }
 {

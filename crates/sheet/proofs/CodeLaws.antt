@@ -1,8 +1,9 @@
 -- What the code that reads and writes a line stands on: the key in front, the code's form of an entry, a line as it is written, and judged settings.
 -- Assumes nothing.
 use mathlib.Core.Path.{◌≡◌, refl, ap, sym, ◌∙◌}
-use mathlib.Core.Bool.{Bool, true, false, ◌&&◌}
+use mathlib.Core.Bool.{Bool, true, false, ◌&&◌, true≢false, and-false}
 use mathlib.Core.List.{List, [], ◌∷◌}
+use mathlib.Core.Logic.{⊎_elim}
 use Prim.Native.Nat.{ℕ, zero, suc, ◌+◌, ◌-◌, ◌≤◌, ◌<◌}
 use native.Mathlib.Numerals.{add-one}
 use native.Mathlib.Omega.{arith}
@@ -11,6 +12,7 @@ use lib.Dec.{eqb, leb}
 use lib.ListN.{length, get_or, take, drop, length-take}
 use lib.Seq.{length-take-le}
 use Rattle.fixed.proofs.HeldLaws.{and_left, and_right}
+use Rattle.fixed.proofs.Choice.{less_or_not}
 use Rattle.settings.specs.declared.Settings.{Settings}
 use Rattle.settings.specs.Settings.{accepted, refusal}
 use Rattle.sheet.specs.declared.Unread.TheVariants.{Refused}
@@ -30,6 +32,24 @@ use Rattle.std.specs.Prelude.{cond, Some, None, Result, Ok, Err, MatchResult, na
 use Rattle.std.specs.Result.{IsErrAnd}
 
 -- ════ lines
+-- the part of a key that counts
+pub key_get : (n i : ℕ) (l : List ℕ) → i < n → get_or (take n l) i 0 ≡ get_or l i 0
+key_get zero i l h = absurd (omega (arith, h))
+key_get (suc n) i [] h = refl
+key_get (suc n) zero (x ∷ l) h = refl
+key_get (suc n) (suc i) (x ∷ l) h = key_get n i l (omega (arith, h))
+
+pub starts_short : (ns s : List ℕ) → length s < length ns → false ≡ starts ns s
+unfolding starts
+starts_short [] s h = absurd (omega (arith, h))
+starts_short (n ∷ ns) [] h = refl
+starts_short (n ∷ ns) (c ∷ s) h = sym (and-false (eqb n c)) ∙ ap (λ (t : Bool). eqb n c && t) (starts_short ns s (omega (arith, h)))
+
+-- and so a text that begins with them is as long
+pub starts_long : (ns s : List ℕ) → starts ns s ≡ true → length ns ≤ length s
+starts_long ns s t =
+    ⊎_elim (λ h. absurd (true≢false (sym t ∙ sym (starts_short ns s h)))) (λ h. h) (less_or_not (length s) (length ns))
+
 -- as the library compares the front of a text
 pub starts_is : (ns s : List ℕ) → pointwise nat_eq (take (length ns) s) ns ≡ starts ns s
 unfolding starts

@@ -1,6 +1,6 @@
 -- Laws of a number's text: its last digit, how long it is, and how its digits are counted and spelt.
 -- Assumes nothing.
-use mathlib.Core.Path.{◌≡◌, refl}
+use mathlib.Core.Path.{◌≡◌, refl, ap, ◌∙◌}
 use mathlib.Core.List.{List, [], ◌∷◌, ◌++◌}
 use Prim.Native.Nat.{ℕ, zero, suc, ◌+◌, ◌*◌, ◌/◌, ◌^◌, max, ◌≤◌, ◌<◌}
 use native.Mathlib.Nat.{pow-suc}
@@ -91,6 +91,11 @@ sign_plain (pos n) h = refl
 sign_plain (negsuc n) h = absurd h.le
 
 -- ════ as the code makes it: so many last digits
+pub last_length : (k n : ℕ) → length (last_digits k n) ≡ k
+unfolding last_digits
+last_length zero n = refl
+last_length (suc k) n = length_more (last_digits k (n / 10)) (digit_of n) ∙ ap suc (last_length k (n / 10))
+
 pub count_is_last : (n : ℕ) → last_digits (length (count_text n)) n ≡ count_text n
 unfolding count_text last_digits
 count_is_last n =

@@ -1,12 +1,12 @@
 -- Laws of `Put`.
 -- Assumes nothing.
-use mathlib.Core.Path.{◌≡◌, refl, ◌∙◌}
+use mathlib.Core.Path.{◌≡◌, refl, ap, ◌∙◌}
 use mathlib.Core.List.{List, [], ◌∷◌, ◌++◌}
 use Prim.Native.Nat.{ℕ, ◌+◌, ◌-◌, ◌≤◌, ◌<◌}
 use native.Mathlib.Omega.{arith}
 use native.Mathlib.Numerals.{add-one}
-use lib.ListN.{length, get_or, take, length-append}
-use lib.Seq.{take-suc, drop-drop}
+use lib.ListN.{length, get_or, take, drop, length-append, length-take, length-drop, take-append-drop}
+use lib.Seq.{take-suc, drop-drop, take_all}
 use borrow.Rule.Slice.PartMut.{put_mid}
 use Rattle.writing.specs.declared.Page.{Page}
 use Rattle.writing.specs.Page.{Put, Room}
@@ -43,6 +43,17 @@ then_next bs i h a b = rw (add-one, take-suc bs i 0) (then a b)
 pub copied : (o : List ℕ) (at n : ℕ) {bs now : List ℕ} → now ≡ bs → n ≡ length bs → put_mid at (at + n - at) o now ≡ written o at bs
 unfolding written
 copied o at n {bs} e l = let k : at + n - at ≡ n = omega arith in rw (e, k, drop-drop, l) refl
+
+-- the same where the first k bytes are copied, and the others behind them
+pub copied_parts : (o : List ℕ) (at k n : ℕ) (bs : List ℕ) {x y : List ℕ} → k ≤ n → n ≡ length bs → at + n ≤ length o → x ≡ take k bs
+    → y ≡ take (n - k) (drop k bs) → put_mid (at + k) (at + n - (at + k)) (put_mid at (at + k - at) o x) y ≡ written o at bs
+copied_parts o at k n bs {x} {y} h l r e f =
+    let i : k ≡ length x = omega (arith, ap length e, length-take k bs) in
+    let j : n - k ≡ length y = omega (arith, ap length f, length-take (n - k) (drop k bs), length-drop k bs) in
+    let both : x ++ y ≡ bs = rw (e, f, take_all (n - k) (drop k bs) (omega (arith, length-drop k bs))) (take-append-drop k bs) in
+    let m : at + n - (at + k) ≡ at + k + (n - k) - (at + k) = omega arith in
+    rw (copied o at k refl i, m, copied (written o at x) (at + k) (n - k) refl j)
+    (rw i (written_then o x y at (omega arith)) ∙ ap (written o at) both)
 
 -- the same, of a text that is the two together
 pub then_is : {p q r : Page} {xs ys zs : List ℕ} → Put p q xs → Put q r ys → zs ≡ xs ++ ys → Put p r zs

@@ -36,7 +36,7 @@ impl<'a> Page<'a> {
         self.at += 1;
     }
 
-    #[tactic(auto, using(crate::proofs::PageLaws::puts, crate::proofs::PageLaws::copied))]
+    #[tactic(auto, using(crate::proofs::PageLaws::puts, crate::proofs::PageLaws::copied, crate::proofs::PageLaws::copied_parts))]
     pub fn put_text(&mut self, bytes: &[u8])
         requires { Room self.old (length bytes.now) }
         ensures { Put self.old self.new bytes.now }

@@ -1,15 +1,13 @@
 -- `field::angle_next` meets its contract.
 -- Assumes nothing.
 use borrow.Author.Rules.{rules}
-use mathlib.Core.Path.{◌≡◌, ◌∙◌, ap}
-use lib.Dec.{lit<}
-use lib.IntN.{ℤ, pos, ◌+ℤ◌, ◌*ℤ◌}
+use mathlib.Core.Path.{◌∙◌}
+use lib.IntN.{pos, ◌+ℤ◌, ◌*ℤ◌}
 use mir.Syntax.{w32, w64}
-use Rattle.std.specs.Int.{int_rem_euclid}
 use Rattle.fixed.specs.Fixed.{down}
-use Rattle.fixed.proofs.DownLaws.{euclid_rest}
-use Rattle.fixed.proofs.Reading.{Reads, sized, result, plus, times, lowered, stored, fits, m32, m64}
+use Rattle.fixed.proofs.Reading.{Reads, sized, result, plus, times, lowered, stored, fits, m64}
 use Rattle.field.specs.Field.{angle_next}
+use Rattle.field.proofs.Turns.{turning}
 use Rattle.field.proofs.angle_next.Goals as goal
 
 -- the angle before it is brought round
@@ -25,15 +23,6 @@ pub overflow_add-a : goal.overflow_add-a
 overflow_add-a c = fits (far c) tt
 
 -- and after it
-is : (c : goal.After-rem_euclid) → c.rem_euclid.result ≡ angle_next c.args.kth c.args.angle (c.args.n +ℤ c.args.s)
-unfolding angle_next
-is c =
-    c.rem_euclid.ensures.value
-    ∙ ap (λ (x : ℤ). int_rem_euclid x (pos 65536)) (stored w64 (far c.before) tt).is
-    ∙ euclid_rest (c.args.angle +ℤ down (c.args.kth *ℤ (c.args.n +ℤ c.args.s)) (pos 4096)) 65536 (lit< tt)
-
-read : (c : goal.After-rem_euclid) → m32 (m64 c.rem_euclid.result) ≡ c.rem_euclid.result
-read c = search rules
-
 pub returns : goal.returns
-returns c = read c ∙ is c
+unfolding angle_next
+returns c = let far_is = (stored w64 (far c.before) tt).is in search (rules, turning, far_is)

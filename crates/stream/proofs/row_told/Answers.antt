@@ -27,7 +27,7 @@ returns c =
     let k : m32 s.pulses.c ≡ s.pulses.c = search rules in
     let e : s ≡ row_stepped c.args.t.drive l 0 = simp (f, g, h) at c.step_sound-s.ensures ∙ sym (step_is_sound c.args.t.drive _ _ _ (sound→ _ c.requires.0)) in
     record {
-      tally = rw (← e) (simp (c.next.ensures, c.next_if.ensures, c.next_if-2.ensures, same_word 0 refl fits));
+      tally = rw (← e) (cc (n, same_word 0 refl fits));
       put = rw (← e) (simp (n, i, j, k) at c.put_line.ensures.put);
       bound = omega (arith, c.put_line.ensures.bound);
     }
